@@ -1,7 +1,7 @@
 #!/usr/bin/env bash
 # Speeds of the proved ciphers, beside those of `openssl speed` on the same machine where it is installed.
 #
-# usage: bash bench/ciphers.sh
+# usage: [CPU=x86-64-v3] bash bench/ciphers.sh
 #
 # A figure is the best of 200 turns over 64 KiB, by processor time, and of five such runs; openssl's is what it tells of one
 # second. 1 MB is 10^6 bytes. To add a crate: a program in bench/programs/ that answers lines `time-CALL ..` with

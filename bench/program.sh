@@ -8,7 +8,8 @@ scratch=$(mktemp -d)
 trap 'rm -rf "$scratch"' EXIT
 
 # build_program CRATE OTHER..: builds bench/programs/CRATE.rt.in, which stands on CRATE of the
-# repository and on the OTHER crates of the kit, and prints the path of the program.
+# repository and on the OTHER crates of the kit, and prints the path of the program. Where the variable
+# `CPU` names a level, as in CPU=x86-64-v3, it is built for such processors.
 build_program() {
     local crate=$1
     shift
@@ -20,7 +21,7 @@ build_program() {
         mkdir -p "$workspace/crates/$name/src" &&
             cp "$top/bench/programs/$crate.rt.in" "$workspace/crates/$name/src/main.rt" &&
             echo "$name: $crate $*" >>"$workspace/crates.txt" &&
-            cd "$workspace/crates/$name" && rt run </dev/null
+            cd "$workspace/crates/$name" && rt run ${CPU:+--cpu="$CPU"} </dev/null
     ) >"$workspace/log" 2>&1 || {
         tail -n 20 "$workspace/log" >&2
         echo "$name isn't built" >&2

@@ -32,8 +32,8 @@ def keystream(source, low, size):
 
 
 def streams(source):
-    """Every length from 0 to 600, and lengths around 16384 at every remainder of a group of 128 bytes, with each carry."""
-    sizes = [*range(601), *range(16384 - 64, 16384 + 65)]
+    """Every length from 0 to 600, and lengths around 1024, 16384 and 65536 at every remainder of a group, with each carry."""
+    sizes = [*range(601), *range(1024 - 16, 1024 + 273), *range(16384 - 64, 16384 + 65), *range(65536 - 8, 65536 + 9)]
     return [keystream(source, low, size) for size in sizes for low in [None, 32, 64, 128]]
 
 

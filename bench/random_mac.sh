@@ -123,6 +123,14 @@ def uneven():
     count = random.choice([0, 1, 2, 3, 4, 5, 8, 20, 63, 64, 65, 100])
     return [random.choice(lengths + [random.randrange(0, 400), random.randrange(0, 4000)]) for _ in range(count)]
 
+def even():
+    """Five to twelve texts of nearly one length, or more of unequal lengths, so that eight lanes take them."""
+    count = random.randrange(5, 13)
+    length = random.choice([random.randrange(0, 301), random.randrange(0, 301), 65536 + random.randrange(-70, 71)])
+    if random.randrange(3) == 0:
+        return [random.randrange(0, 301) for _ in range(random.randrange(24, 65))]
+    return [max(0, length + random.randrange(-5, 6)) for _ in range(count)]
+
 def wanted(call, first, second, third, number, *more):
     if call == "hmac256_many":
         return "".join(hmac.new(first, text, "sha256").hexdigest() for text in more)
@@ -150,7 +158,7 @@ with open(cases, "w") as lines, open(results, "w") as answers:
             words[1:] = [random.randbytes(near_a_block()) for _ in range(2)]
             more = [random.randbytes(near_a_block()) for _ in range(2)]
         if call == "hmac256_many":
-            more = [random.randbytes(length) for length in uneven()]
+            more = [random.randbytes(length) for length in random.choice([uneven, even])()]
         texts = "".join(f" x{text.hex()}" for text in more)
         lines.write(f"{call} x{words[0].hex()} x{words[1].hex()} x{words[2].hex()} {number}{texts}\n")
         answers.write(wanted(call, *words, number, *more) + "\n")

@@ -1,7 +1,7 @@
 #!/usr/bin/env bash
 # Speeds of `hmac256_many` over texts of equal and of unequal lengths, beside calls of `hmac256`.
 #
-# usage: bash bench/uneven.sh
+# usage: [CPU=x86-64-v3] bash bench/uneven.sh
 #
 # Both ways are taken by turns in one program. A figure is the least of many turns, by processor time. 1 MB is 10^6 bytes. The sixteen
 # unequal lengths are drawn like those of Borg's cutter at a sixteenth of its sizes: 32 KiB and an exponential variate with a mean of 128 KiB.
@@ -35,6 +35,8 @@ sixteen="$eight 37777 107287 42259 45232 105191 262617 50090 65879"
 
 uptime
 row "four texts of 64 KiB" 200 1 $(many 4 65536)
+row "eight texts of 64 KiB" 200 1 $(many 8 65536)
+row "twelve texts of 64 KiB" 100 1 $(many 12 65536)
 row "four texts of 100 bytes" 200 100 $(many 4 100)
 row "64 texts of 100 bytes" 200 10 $(many 64 100)
 row "64 KiB beside three of no bytes" 200 1 65536 0 0 0
@@ -42,4 +44,5 @@ row "one text of 64 KiB" 200 1 65536
 row "four unequal texts" 100 1 $four
 row "eight unequal texts" 100 1 $eight
 row "sixteen unequal texts" 60 1 $sixteen
+row "32 unequal texts" 40 1 $sixteen $sixteen
 uptime

@@ -10,7 +10,7 @@ if [ ! -e "$fixtures/run.py" ]; then
     echo "0 passed, 0 failed, 1 skipped"
     exit 0
 fi
-./build
+. checks/built.sh
 # The words name the commands, one each.
 # shellcheck disable=SC2086
-python3 "$fixtures/run.py" target/borgferry $commands
+python3 "$fixtures/run.py" "$program" $commands

@@ -3,5 +3,5 @@
 # checks/plain.py PROGRAM, and take some minutes.
 set -eu
 cd "$(dirname "$0")/.."
-./build
-exec python3 checks/plain.py target/borgferry links small new keyfile afterwards kills full kept interpreters
+. checks/built.sh
+exec python3 checks/plain.py "$program" links small new keyfile afterwards kills full kept interpreters

@@ -40,6 +40,8 @@ K, L = b"\x11" * 32, b"\x22" * 32
 NO_COMMIT = (8, b"source refused: no commit\n")
 DEVICE = (4, b"source device failed\n")
 USAGE = (2, b"usage\n")
+# The level of processors stands in the program's text, where ./build writes it.
+VERSION = re.search(rb"borgferry 0\.1\.0 for x86-64-v[23]\n", open(PROGRAM, "rb").read()).group()
 NOTHING = (0, b"")
 GREATEST = 2**64 - 1
 TEN_A_FOLDER = b"[repository]\nversion = 1\nid = %s\nsegments_per_dir = 10" % (b"00" * 32)
@@ -323,7 +325,7 @@ def words():
         case(f"command {given}", good, wrong_word(number), ("source", "-", *given))
     case("words come before the source", None, wrong_word(1), ("source", "-", "nothing"), {"source": b"text"})
     case("keys --", good, line((K, 3)), ("source", "-", "keys", "--"))
-    case("--version", good, (0, b"borgferry 0.1.0\n"), ["--version"])
+    case("--version", good, (0, VERSION), ["--version"])
     case("a source of the name --version", good, NO_COMMIT, ("--version", "-", "keys"))
     helps(good)
     for at in range(3):
@@ -1425,7 +1427,7 @@ def variables():
                 status, out = run(words, root, given, says=says)
                 judge(f"{words[2]}: a passphrase {given}", (status, b"" if out.startswith((b"initialized ", b"BORG_KEY ")) else out), (0, b""))
     case("wrong words come before a passphrase", good, USAGE, ["source"], variables={source: bad})
-    case("--version needs no passphrase", good, (0, b"borgferry 0.1.0\n"), ["--version"], variables={source: bad})
+    case("--version needs no passphrase", good, (0, VERSION), ["--version"], variables={source: bad})
 
 BORG_README = b"This is a Borg Backup repository.\nSee https://borgbackup.readthedocs.io/\n"
 INIT = ("-", "target", "init", "--iterations", "1")
@@ -1788,7 +1790,8 @@ def progress():
         holds(grows and read >= least[0] and written >= least[1] and lasted <= seconds, f"progress: {name}: {lines}")
 
     keys = Keys()
-    whole = repository(keys, PASSPHRASE, keys.blob(keys.tagged(fields([(b"a", K, b"2020")]))))
+    contents = [b"%d" % number for number in range(1000)]
+    whole = repository(keys, PASSPHRASE, keys.blob(keys.tagged(fields([(b"a", K, b"2020")]))), *((keys.id(content), keys.blob(content)) for content in contents))
     entries = [put(number.to_bytes(32, "big"), b"") for number in range(30000)] + [put(K, bytes(3000000))]
     check, bad = ("slow", "-", "check"), b"bad missing %s\n" % K.hex().encode()
     with tempfile.TemporaryDirectory() as root, concurrent.futures.ThreadPoolExecutor() as pool:

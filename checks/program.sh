@@ -2,5 +2,5 @@
 # Runs the built program on folders that it makes, good and damaged, and on words and variables, right and wrong.
 set -eu
 cd "$(dirname "$0")/.."
-./build
-exec python3 checks/program.py target/borgferry
+. checks/built.sh
+exec python3 checks/program.py "$program"

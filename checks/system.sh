@@ -2,5 +2,5 @@
 # Runs the built program on a system that refuses, ends early, or holds what isn't expected: random bytes, folders, links, modes, outputs, passphrases.
 set -eu
 cd "$(dirname "$0")/.."
-./build
-exec python3 checks/system.py target/borgferry
+. checks/built.sh
+exec python3 checks/system.py "$program"

@@ -3,5 +3,5 @@
 # that they fail, and lose nothing, where the system refuses a write or a sync, or where they are killed.
 set -eu
 cd "$(dirname "$0")/.."
-./build
-exec python3 checks/writing.py target/borgferry
+. checks/built.sh
+exec python3 checks/writing.py "$program"

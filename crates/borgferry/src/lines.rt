@@ -1,7 +1,7 @@
 //! What the program itself prints: its version and its help, in lines of at most 80 columns.
 
 /// The version, as `--version` prints it.
-pub const VERSION: &str = "borgferry 0.1.0\n";
+pub const VERSION: &str = "borgferry 0.1.0 for x86-64-v2\n";
 
 /// What stands in front of the commands in the help.
 pub const HEAD: &str = "\

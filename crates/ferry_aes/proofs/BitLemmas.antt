@@ -182,21 +182,29 @@ choice_of_bits a b (suc (suc m)) a_bit b_bit m_bit = absurd (omega arith)
 
 -- ---- lanes
 
-pub get_or-picked : (v ks : List ℕ) (f : ℕ → ℕ) → length v ≡ 16 → length ks ≡ 16 → T (all_below (λ j. eqb (get_or ks j 0) (f j) && ltb (f j) 16) 16)
-    → (j : ℕ) → j < 16 → get_or (pick_l 0 (v ++ v) ks) j 0 ≡ get_or v (f j) 0
-get_or-picked v ks f long sixteen all j within =
-    let here = every_below (λ j. eqb (get_or ks j 0) (f j) && ltb (f j) 16) 16 all j within in
+pub get_or-picked_at : (n : ℕ) (xs ks : List ℕ) (f : ℕ → ℕ) → length ks ≡ n → T (all_below (λ j. eqb (get_or ks j 0) (f j)) n)
+    → (j : ℕ) → j < n → get_or (pick_l 0 xs ks) j 0 ≡ get_or xs (f j) 0
+get_or-picked_at n xs ks f many all j within =
+    let place : get_or ks j 0 ≡ f j = eqb→eq _ _ (every_below (λ j. eqb (get_or ks j 0) (f j)) n all j within) in
+    get_or-map (λ k. get_or xs k 0) ks j 0 0 (omega (arith, many, within)) ∙ ap (λ k. get_or xs k 0) place
+
+pub get_or-picked : (n : ℕ) (v ks : List ℕ) (f : ℕ → ℕ) → length v ≡ n → length ks ≡ n → T (all_below (λ j. eqb (get_or ks j 0) (f j) && ltb (f j) n) n)
+    → (j : ℕ) → j < n → get_or (pick_l 0 (v ++ v) ks) j 0 ≡ get_or v (f j) 0
+get_or-picked n v ks f long many all j within =
+    let here = every_below (λ j. eqb (get_or ks j 0) (f j) && ltb (f j) n) n all j within in
     let place : get_or ks j 0 ≡ f j = eqb→eq _ _ (and_l _ _ here) in
-    let low : f j < 16 = ltb→lt _ _ (and_r (eqb (get_or ks j 0) (f j)) _ here) in
-    get_or-map (λ k. get_or (v ++ v) k 0) ks j 0 0 (omega (arith, sixteen, within))
+    let low : f j < n = ltb→lt _ _ (and_r (eqb (get_or ks j 0) (f j)) _ here) in
+    get_or-map (λ k. get_or (v ++ v) k 0) ks j 0 0 (omega (arith, many, within))
     ∙ ap (λ k. get_or (v ++ v) k 0) place ∙ get_or_append_left v v 0 (f j) (omega (arith, long, low))
 
-pub wire-xor : (a b : List ℕ) (j i : ℕ) → length a ≡ 16 → length b ≡ 16 → j < 16 → wire (zip2 bit_xor a b) j i ≡ add_bits (wire a j i) (wire b j i)
+pub wire-xor : (n : ℕ) (a b : List ℕ) (j i : ℕ) → length a ≡ n → length b ≡ n → j < n
+    → wire (zip2 bit_xor a b) j i ≡ add_bits (wire a j i) (wire b j i)
 unfolding add_bits
-wire-xor a b j i long same within =
+wire-xor n a b j i long same within =
     ap (λ x. bit_at x i) (get_or-zip2 bit_xor a b j 0 0 0 (omega arith) (omega arith)) ∙ bit_at_xor (get_or a j 0) (get_or b j 0) i
 
-pub wire-and : (a b : List ℕ) (j i : ℕ) → length a ≡ 16 → length b ≡ 16 → j < 16 → wire (zip2 bit_and a b) j i ≡ multiply_bits (wire a j i) (wire b j i)
+pub wire-and : (n : ℕ) (a b : List ℕ) (j i : ℕ) → length a ≡ n → length b ≡ n → j < n
+    → wire (zip2 bit_and a b) j i ≡ multiply_bits (wire a j i) (wire b j i)
 unfolding multiply_bits
-wire-and a b j i long same within =
+wire-and n a b j i long same within =
     ap (λ x. bit_at x i) (get_or-zip2 bit_and a b j 0 0 0 (omega arith) (omega arith)) ∙ bit_at_and (get_or a j 0) (get_or b j 0) i

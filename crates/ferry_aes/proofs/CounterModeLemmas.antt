@@ -166,6 +166,11 @@ output_blocks-wrapped w n =
 
 -- ---- key_stream
 
+-- before the first group there is nothing
+pub no_groups : (w : List (List ℕ)) (n len : ℕ) (into : List ℕ) → take (128 * 0) into ≡ take len (output_blocks w n (8 * 0))
+unfolding output_blocks
+no_groups w n len into = sym (take_all len [] (omega arith))
+
 -- what eight blocks more leave, where the last one is cut
 pub front_more : (w : List (List ℕ)) (n count len first : ℕ) (before after group : List ℕ) → 128 * count < len → length before ≡ len
     → take (128 * count) before ≡ take len (output_blocks w n (8 * count)) → first ≡ (n + 8 * count) % 2 ^ 128 → group ≡ output_blocks w first 8
@@ -318,3 +323,43 @@ each_encrypted_by_eight w bytes low high first second a b d e =
     let q7 = e 7 (omega arith) ∙ ap (cipher w) (b 7 (omega arith)) in
     rw (p0, p1, p2, p3, p4, p5, p6, p7, q0, q1, q2, q3, q4, q5, q6, q7) (sym (flat_map-append (λ i. cipher w (piece bytes i)) (range_with_len 0 8)
     (range_with_len 8 8)))
+
+-- ---- two times eight blocks
+
+-- 128 bytes behind a front, and 128 bytes behind these
+pub two_groups_put : (at : ℕ) (front first second between after : List ℕ) → take (at + 128) between ≡ front ++ first
+    → take (at + 128 + 128) after ≡ take (at + 128) between ++ second → take (at + 256) after ≡ front ++ first ++ second
+two_groups_put at front first second between after low high =
+    let e : at + 256 ≡ at + 128 + 128 = omega arith in
+    ap (λ k. take k after) e ∙ high ∙ ap (λ xs. xs ++ second) low
+
+-- what sixteen blocks more leave
+pub whole_more : (w : List (List ℕ)) (n count first second : ℕ) (before after : List ℕ) → take (256 * count) before ≡ output_blocks w n (16 * count)
+    → first ≡ (n + 16 * count) % 2 ^ 128 → second ≡ (n + 16 * count + 8) % 2 ^ 128
+    → take (256 * count + 256) after ≡ take (256 * count) before ++ output_blocks w first 8 ++ output_blocks w second 8
+    → take (256 * (count + 1)) after ≡ output_blocks w n (16 * (count + 1))
+whole_more w n count first second before after so_far one two put =
+    let e : 256 * (count + 1) ≡ 256 * count + 256 = omega arith in
+    let a : output_blocks w first 8 ≡ output_blocks w (n + 16 * count) 8 =
+    ap (λ m. output_blocks w m 8) one ∙ output_blocks-wrapped w (n + 16 * count) in
+    let b : output_blocks w second 8 ≡ output_blocks w (n + (16 * count + 8)) 8 =
+    ap (λ m. output_blocks w m 8) two ∙ output_blocks-wrapped w (n + 16 * count + 8) ∙ ap (λ m. output_blocks w m 8) (omega arith) in
+    let f : 16 * count + 8 + 8 ≡ 16 * (count + 1) = omega arith in
+    let more : output_blocks w n (16 * count + 8) ≡ output_blocks w n (16 * count) ++ output_blocks w (n + 16 * count) 8 =
+    output_blocks-append w n (16 * count) 8 in
+    let all : output_blocks w n (16 * count + 8 + 8) ≡ output_blocks w n (16 * count + 8) ++ output_blocks w (n + (16 * count + 8)) 8 =
+    output_blocks-append w n (16 * count + 8) 8 in
+    ap (λ k. take k after) e ∙ put ∙ (λ t. so_far t ++ a t ++ b t) ∙ ap (λ xs. xs ++ output_blocks w (n + (16 * count + 8)) 8) (sym more) ∙ sym all
+    ∙ ap (output_blocks w n) f
+
+-- whole pairs of groups, as a front of the stream
+pub pairs_as_front : (w : List (List ℕ)) (n old len : ℕ) (into : List ℕ) → old ≡ len
+    → take (256 * (old / 256)) into ≡ output_blocks w n (16 * (old / 256))
+    → take (128 * (len / 256 * 2)) into ≡ take len (output_blocks w n (8 * (len / 256 * 2)))
+pairs_as_front w n old len into same whole =
+    let count = old / 256 in
+    let e : 128 * (len / 256 * 2) ≡ 256 * count = omega (arith, same) in
+    let f : 16 * count ≡ 8 * (len / 256 * 2) = omega (arith, same) in
+    ap (λ k. take k into) e ∙ whole
+    ∙ sym (take_all len (output_blocks w n (16 * count)) (omega (arith, same, length-output_blocks w n (16 * count))))
+    ∙ ap (λ k. take len (output_blocks w n k)) f

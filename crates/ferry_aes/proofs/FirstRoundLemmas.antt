@@ -9,6 +9,7 @@ use Rattle.ferry_aes.specs.CounterMode.{counter_block}
 use Rattle.ferry_aes.specs.Planes.{byte_at, state_at, block_at, first_byte, HasHigherBytes, HasAllBytes}
 use Rattle.ferry_aes.proofs.BitLemmas.{below_4, below_16}
 use Rattle.ferry_aes.proofs.PlanesLemmas.{state_by-same}
+use Rattle.ferry_aes.proofs.HalvesLemmas.{state_at-same}
 use Rattle.ferry_aes.proofs.CounterModeLemmas.{counter_block-wrapped}
 
 -- the lowest byte of a counter block
@@ -98,3 +99,8 @@ unfolding state_at sub_bytes add_round_key state_of
 all_bytes w n known planes higher others last i block =
     state_by-same (λ r c. byte_at planes (4 * r + c) i) (λ r c. first_byte w (counter_block (n + i)) r c)
     (λ r c row column. one_byte w n known planes higher others last r c i row column block)
+
+-- planes with the same bytes
+pub all_bytes-same : (w : List (List ℕ)) (n : ℕ) (p q : List (List ℕ)) → ((j i : ℕ) → j < 16 → byte_at q j i ≡ byte_at p j i) → HasAllBytes w n p
+    → HasAllBytes w n q
+all_bytes-same w n p q each all i block = state_at-same p q i (λ j l. each j i l) ∙ all i block

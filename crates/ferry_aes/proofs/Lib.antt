@@ -10,3 +10,4 @@ pub mod ByteLemmas
 pub mod CircuitLemmas
 pub mod PlanesLemmas
 pub mod FirstRoundLemmas
+pub mod HalvesLemmas

@@ -251,19 +251,24 @@ block_at-transposed made x moved i block =
 
 -- ---- round keys and rounds
 
-pub round_keys_more : (w : List (List ℕ)) (keys : List (List (List ℕ))) (count : ℕ) (key : List (List ℕ)) → count < length keys
-    → ((n : ℕ) → n < count → IsRoundKey w n (slice_index_or keys n [])) → IsRoundKey w count key
-    → (n : ℕ) → n < count + 1 → IsRoundKey w n (slice_index_or (set keys count key) n [])
-round_keys_more w keys count key room before made n within =
+-- what holds of each element before a place, and of the element that is set there
+pub each_more : (P : ℕ → List (List ℕ) → Type 0) (keys : List (List (List ℕ))) (count : ℕ) (key : List (List ℕ)) → count < length keys
+    → ((n : ℕ) → n < count → P n (slice_index_or keys n [])) → P count key → (n : ℕ) → n < count + 1 → P n (slice_index_or (set keys count key) n [])
+each_more P keys count key room before made n within =
     elim (cases_lt n count) [
       | inl low ↦ let apart : n ≢ count = omega arith in
           let e = get_or-set_other keys count n key [] apart in
-          subst (λ p. IsRoundKey w n p) (sym e) (before n low)
+          subst (λ p. P n p) (sym e) (before n low)
       | inr high ↦
           let same : count ≡ n = omega arith in
           let e = get_or-set_same keys count key [] room in
-          subst (λ m. IsRoundKey w m (slice_index_or (set keys count key) m [])) same (subst (λ p. IsRoundKey w count p) (sym e) made)
+          subst (λ m. P m (slice_index_or (set keys count key) m [])) same (subst (λ p. P count p) (sym e) made)
     ]
+
+pub round_keys_more : (w : List (List ℕ)) (keys : List (List (List ℕ))) (count : ℕ) (key : List (List ℕ)) → count < length keys
+    → ((n : ℕ) → n < count → IsRoundKey w n (slice_index_or keys n [])) → IsRoundKey w count key
+    → (n : ℕ) → n < count + 1 → IsRoundKey w n (slice_index_or (set keys count key) n [])
+round_keys_more w keys count key room before made n within = each_more (IsRoundKey w) keys count key room before made n within
 
 pub after_round_next : (w : List (List ℕ)) (s state next : List (List ℕ)) (n : ℕ) → 0 < n → state ≡ after_round w s (n - 1) → next ≡ round w n state
     → next ≡ after_round w s (n + 1 - 1)

@@ -1,6 +1,7 @@
 -- Eight blocks as eight planes of bits. Plane k is a list of 16 bytes: bit i of its byte j is bit k of
--- byte j of block i. The bytes of a block stand by rows: byte 4r + c is s[r,c] of the state.
-use Rattle.std.specs.Prelude.{ℕ, ◌+◌, ◌*◌, ◌/◌, ◌%◌, ◌<◌, ◌-◌, ◌==◌, ltb, if◌then◌else◌, ◌≡◌, List, [], map, slice_index, slice_index_or, bit_xor}
+-- byte j of block i. The bytes of a block stand by rows: byte 4r + c is s[r,c] of the state. Wide planes
+-- have 32 bytes: the planes of eight blocks, and behind them those of eight further ones.
+use Rattle.std.specs.Prelude.{ℕ, ◌+◌, ◌*◌, ◌/◌, ◌%◌, ◌<◌, ◌-◌, ◌==◌, ltb, if◌then◌else◌, ◌≡◌, List, [], map, take, drop, slice_index, slice_index_or, bit_xor}
 use Rattle.std.specs.Int.{bit_at}
 use Rattle.std.specs.List.{range_with_len, flat_map}
 use Rattle.std.specs.Simd.Lanes.{number_l}
@@ -75,3 +76,17 @@ HasHigherBytes w n planes =
 -- the same with all bytes
 abbrev pub HasAllBytes : List (List ℕ) → ℕ → List (List ℕ) → Type 0
 HasAllBytes w n planes = (i : ℕ) → i < 8 → state_at planes i ≡ sub_bytes (add_round_key w 0 (state_of (counter_block (n + i))))
+
+-- in byte j of planes h the lowest bytes of the numbers from n + 128 * h + 8 * j on, after ADDROUNDKEY of round 0 and SUBBYTES of round 1
+abbrev pub HaveLowBytes : List (List ℕ) → ℕ → List (List (List ℕ)) → Type 0
+HaveLowBytes w n lows =
+    (h j i : ℕ) → h < 2 → j < 16 → i < 8
+    → byte_at (slice_index_or lows h []) j i ≡ sbox (bit_xor ((n + 128 * h + 8 * j + i) % 256) (slice_index (word w 3) 3))
+
+-- the planes of eight of sixteen blocks in wide planes: half 0 those of the first eight, half 1 those of the eight behind these
+unfoldable pub half : ℕ → List (List ℕ) → List (List ℕ)
+half h planes = map (λ k. take 16 (drop (16 * h) (slice_index_or planes k []))) (range_with_len 0 8)
+
+-- wide planes of the 15 round keys: those of each half are planes of them
+abbrev pub AreWideRoundKeys : List (List ℕ) → List (List (List ℕ)) → Type 0
+AreWideRoundKeys w keys = (n h : ℕ) → n < 15 → h < 2 → IsRoundKey w n (half h (slice_index_or keys n []))

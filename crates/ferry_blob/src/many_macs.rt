@@ -2,7 +2,7 @@
 
 ghost use Rattle.std.specs.Prelude.{◌≡◌, ℕ, ◌<◌, ◌≤◌, [], slice_index_or};
 ghost use Rattle.ferry_mac.specs.Hmac.{hmac256};
-ghost use Rattle.ferry_mac.specs.Many.{nth_text};
+ghost use Rattle.ferry_mac.specs.Lanes.{nth_text};
 
 use ferry_mac::hmac256_many;
 

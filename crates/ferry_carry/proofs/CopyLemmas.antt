@@ -18,9 +18,8 @@ use Rattle.ferry_rechunk.proofs.CuttingLemmas.{fed_cut, fed_nothing}
 use Rattle.ferry_rechunk.specs.Cut.{cut}
 use Rattle.ferry_rechunk.specs.Cutting.{Cutting, IsFed}
 use Rattle.ferry_repo.proofs.ContentLemmas.{contents_then}
-use Rattle.ferry_repo.specs.Archives.{HoldsContent}
+use Rattle.ferry_repo.specs.Archives.{HoldsContent, ContentsCome, HoldsJoined}
 use Rattle.ferry_repo.specs.Opening.{RepoState}
-use Rattle.ferry_repo.specs.Whole.{ContentsCome, HoldsJoined}
 use Rattle.ferry_piece.proofs.PieceLemmas.{begins_nothing, begins_written, chunks_more, hand_fed}
 use Rattle.ferry_carry.proofs.WholeLemmas.{joined_concat}
 use Rattle.ferry_carry.specs.Copying.{BeginsChunk, BeginsContent, BeginsContents, CopiesContent, WritesContent, WritesContents, writer_state}

@@ -12,11 +12,10 @@ use Rattle.ferry_item.specs.declared.item.ChunkRef.{ChunkRef}
 use Rattle.ferry_mac.specs.declared.keys.Keys.{Keys}
 use Rattle.ferry_manifest.specs.declared.manifest.ArchiveRef.{ArchiveRef}
 use Rattle.ferry_rechunk.specs.Cutting.{Cutting}
-use Rattle.ferry_repo.specs.Archives.{RefusesContent, archive_named}
+use Rattle.ferry_repo.specs.Archives.{RefusesContent, archive_named, ContentsCome}
 use Rattle.ferry_repo.specs.Cached.{Contents}
 use Rattle.ferry_repo.specs.Opening.{FitsRepo, RepoState, repo_view}
 use Rattle.ferry_repo.specs.Walk.{IsToCome, walk_view}
-use Rattle.ferry_repo.specs.Whole.{ContentsCome}
 use Rattle.ferry_repo.specs.declared.fault.RepoFault.{RepoFault}
 use Rattle.ferry_repo.proofs.WalkLawLemmas.{some_to_come}
 use Rattle.ferry_store.specs.declared.store.Store.{Store}

@@ -1,3 +1,4 @@
+pub mod KnownLemmas
 pub mod WorkLemmas
 pub mod WholeLemmas
 pub mod SourceLemmas

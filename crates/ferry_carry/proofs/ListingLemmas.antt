@@ -17,11 +17,11 @@ use Rattle.ferry_manifest.specs.declared.manifest.ArchiveRef.{ArchiveRef}
 use Rattle.ferry_msgpack.specs.Tree.{Tree}
 use Rattle.ferry_rechunk.specs.Cut.{cut}
 use Rattle.ferry_rechunk.specs.Cutting.{Cutting, IsFed}
-use Rattle.ferry_repo.specs.Archives.{archive_named}
+use Rattle.ferry_repo.specs.Archives.{archive_named, HoldsJoined}
 use Rattle.ferry_repo.specs.Cached.{Contents}
 use Rattle.ferry_repo.specs.Opening.{FitsRepo, RepoState, repo_view}
 use Rattle.ferry_repo.specs.Walk.{IsToCome, walk_view}
-use Rattle.ferry_repo.specs.Whole.{HoldsItem, HoldsJoined, WholeItem}
+use Rattle.ferry_repo.specs.Whole.{HoldsItem, WholeItem}
 use Rattle.ferry_repo.specs.declared.fault.RepoFault.{RepoFault}
 use Rattle.ferry_repo.proofs.WalkLawLemmas.{some_to_come}
 use Rattle.ferry_store.specs.declared.store.Store.{Store}

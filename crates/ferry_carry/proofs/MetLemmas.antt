@@ -57,6 +57,7 @@ work_seen told source a store met other named options added (Comparing compariso
             front = so.front;
             read = so.read;
             beside = stands_seen a (repo_view store.repo) met other state.name state.other so.front same so.beside;
+            matched = so.matched;
           };
           same_name = was.same_name;
         };
@@ -71,6 +72,7 @@ flight_seen told source a store met other flight same p = record {
   stands = p.stands;
   added = p.added;
   work = work_seen told source a store met other flight.named flight.options p.added flight.work same p.work;
+  matched = p.matched;
 }
 
 differs_seen : (from : Origin) (met other : Seen) (name : List ℕ) → SameSeen met other → DiffersThere from met.told met.repo name

@@ -1,16 +1,21 @@
 -- Lemmas on flights over what others do to their source and their target.
-use Rattle.std.proofs.Common.{◌≡◌, ◌⊎◌, inl, inr, ℕ, zero, Bool, true, false, cond, List, [], ◌∷◌, Option, Some, None, IfSome}
-use Rattle.std.proofs.Common.{Result, Ok, Err, refl, sym, ◌∙◌, ap, subst}
+use Rattle.std.proofs.Common.{◌≡◌, ◌⊎◌, inl, inr, ℕ, zero, suc, Bool, true, false, cond, List, [], ◌∷◌, Option, Some, None, IfSome}
+use Rattle.std.proofs.Common.{◌≢◌, Result, Ok, Err, IfOk, refl, sym, ◌∙◌, ap, subst}
 use Rattle.std.proofs.lemmas.Option.{IfSome_then}
 use Rattle.std.proofs.lemmas.Slice.Eq.{bytes_eq-Decides}
 use Rattle.std.specs.Str.{bytes_eq}
 use Rattle.ferry_blob.specs.Blob.{content_id}
 use Rattle.ferry_compare.specs.Compare.{ComparisonState, FitsTold, ReadsSoFar, Seen, StandsBeside, comparison_view, seen}
+use Rattle.ferry_compare.specs.Matched.{AreMatched, Matched}
+use Rattle.ferry_compare.proofs.StepLemmas.{matched_later}
 use Rattle.ferry_disk.proofs.DeviceLemmas.{told_same}
 use Rattle.ferry_disk.proofs.MomentLemmas.{between_map}
+use Rattle.ferry_disk.specs.Act.{TellOf, files_now}
 use Rattle.ferry_disk.specs.Device.{Told, heard, told_files}
+use Rattle.ferry_disk.specs.Files.{Files}
 use Rattle.ferry_disk.specs.Faults.{EndsAtFault, FailedWhere, failed_told}
 use Rattle.ferry_disk.specs.Moments.{Between}
+use Rattle.ferry_mac.specs.declared.keys.Keys.{Keys}
 use Rattle.ferry_manifest.specs.Manifest.Text.{ManifestText}
 use Rattle.ferry_manifest.specs.declared.manifest.ArchiveRef.{ArchiveRef}
 use Rattle.ferry_next.proofs.PlaceLemmas.{with_named}
@@ -19,22 +24,27 @@ use Rattle.ferry_piece.specs.Fault.{target_failed}
 use Rattle.ferry_piece.specs.Gather.{IsAmong}
 use Rattle.ferry_piece.specs.Puts.{Addition, AtBegin, Border, border_behind}
 use Rattle.ferry_piece.specs.Stops.{is_target}
+use Rattle.ferry_piece.specs.Work.{Works}
 use Rattle.ferry_piece.specs.declared.fault.CarryFault.{CarryFault}
 use Rattle.ferry_piece.specs.declared.fault.CarryFault.TheVariants.{Source, Target, Taken, NotFound, Pieces, Memory, Record}
-use Rattle.ferry_repo.specs.Archives.{archive_named}
+use Rattle.ferry_repo.specs.Archives.{HoldsJoined, archive_named}
 use Rattle.ferry_repo.specs.Opening.{RepoState, repo_view}
 use Rattle.ferry_repo.specs.Walk.{FitsWalk, WalkState, walk_view}
 use Rattle.ferry_repo.specs.Whole.{WholeArchive}
 use Rattle.ferry_store.specs.Commit.{accepted_in}
+use Rattle.ferry_store.specs.State.{IsStep}
 use Rattle.ferry_store.specs.Store.{StoreFits}
 use Rattle.ferry_store.specs.declared.store.Store.{Store}
 use Rattle.ferry_write.specs.Script.{AllDone}
 use Rattle.ferry_carry.proofs.BegunLemmas.{so_far_later}
 use Rattle.ferry_carry.proofs.GrowLemmas.{has_kept}
 use Rattle.ferry_carry.proofs.GrowsLemmas.{most_from}
+use Rattle.ferry_carry.proofs.TellLemmas.{files_told}
+use Rattle.ferry_carry.proofs.WholeLemmas.{joined_kept}
 use Rattle.ferry_carry.specs.Accepting.{NamesNew}
 use Rattle.ferry_carry.specs.Carrying.{Origin, origin}
-use Rattle.ferry_carry.specs.Flight.{FlightFits, FlightStands, Flies, IsCommitted, WorkFits, carried_by}
+use Rattle.ferry_carry.specs.Chosen.{TellsLine}
+use Rattle.ferry_carry.specs.Flight.{FlightFits, FlightStands, Flies, IsCommitted, WaitsMatched, WorkFits, carried_by}
 use Rattle.ferry_carry.specs.Grow.{Grows, IsNamedBy, KeepsMost}
 use Rattle.ferry_carry.specs.Naming.{TaggedRecord, entry_for}
 use Rattle.ferry_carry.specs.Over.{AddsBetween, AddsOver, OthersDid}
@@ -43,6 +53,7 @@ use Rattle.ferry_carry.specs.Refusals.{IsLeft}
 use Rattle.ferry_carry.specs.declared.copy.Copy.{Copy}
 use Rattle.ferry_carry.specs.declared.flight.Flight.{Flight}
 use Rattle.ferry_carry.specs.declared.flight.Turn.{Turn}
+use Rattle.ferry_carry.specs.declared.flight.Turn.TheVariants.{More}
 use Rattle.ferry_carry.specs.declared.flight.Work.{Work}
 use Rattle.ferry_carry.specs.declared.flight.Work.TheVariants.{Waiting, Copying, Comparing}
 use Rattle.ferry_carry.specs.declared.options.Options.{Options}
@@ -74,6 +85,46 @@ copied_told from named a b store now copy others added fits keys over so = (
       (over_held others store now a.history b.history fits over) c),
 )
 
+-- what was found to be the same is so over what others add
+matched_told : (told : Option Told) (source : RepoState) (a b : Told) (store now : Store) (others : List Addition) (fits : StoreFits false store a.history)
+    → (repo_view now.repo).keys ≡ (repo_view store.repo).keys → AddsOver others store now a.history b.history fits → (matched : Matched)
+    → AreMatched told source (Some a) (repo_view store.repo) matched → AreMatched told source (Some b) (repo_view now.repo) matched
+matched_told told source a b store now others fits keys over [] all = tt
+matched_told told source a b store now others fits keys over (m ∷ matched) all = (
+  record {
+    content = all.0.content;
+    first = all.0.first;
+    second = subst (λ (k : Keys). HoldsJoined (told_files b) (repo_view now.repo).log k (Some m.1.others) (Some all.0.content)) (sym keys)
+        (joined_kept (told_files a) (repo_view store.repo).log (repo_view store.repo).keys (told_files b) (repo_view now.repo).log
+        (over_held others store now a.history b.history fits over) (Some m.1.others) (Some all.0.content) all.0.second);
+  },
+  matched_told told source a b store now others fits keys over matched all.1,
+)
+
+matched_untold : (told : Option Told) (source target now : RepoState) (matched : Matched) → AreMatched told source None target matched
+    → AreMatched told source None now matched
+matched_untold told source target now [] all = tt
+matched_untold told source target now (m ∷ matched) all =
+    (record { content = all.0.content; first = all.0.first; second = tt }, matched_untold told source target now matched all.1)
+
+matched_by : (told : Option Told) (source : RepoState) (a b : Option Told) (store now : Store) (others : List Addition) (matched : Matched)
+    → (repo_view now.repo).keys ≡ (repo_view store.repo).keys → IfSome a (λ t. StoreFits false store t.history) → AddsBetween others store now a b
+    → AreMatched told source a (repo_view store.repo) matched → AreMatched told source b (repo_view now.repo) matched
+matched_by told source None b store now others matched keys fits over all =
+    subst (λ (o : Option Told). AreMatched told source o (repo_view now.repo) matched) (sym (over.none refl))
+    (matched_untold told source (repo_view store.repo) (repo_view now.repo) matched all)
+matched_by told source (Some a) b store now others matched keys fits over all =
+    let to = over.adds in
+    subst (λ (o : Option Told). AreMatched told source o (repo_view now.repo) matched) (sym to.1)
+    (matched_told told source a to.0 store now others fits keys (to.2 fits) matched all)
+
+waits_over : (told : Option Told) (source : RepoState) (a b : Option Told) (store now : Store) (others : List Addition) (matched : Matched) (work : Work)
+    → (repo_view now.repo).keys ≡ (repo_view store.repo).keys → IfSome a (λ t. StoreFits false store t.history) → AddsBetween others store now a b
+    → WaitsMatched told source a (repo_view store.repo) matched work → WaitsMatched told source b (repo_view now.repo) matched work
+waits_over told source a b store now others matched Waiting keys fits over all = matched_by told source a b store now others matched keys fits over all
+waits_over told source a b store now others matched (Copying copy) keys fits over all = tt
+waits_over told source a b store now others matched (Comparing comparison) keys fits over all = tt
+
 compared_told : (told : Option Told) (source : RepoState) (met : Seen) (state : ComparisonState) (a b : Told) (store now : Store) (others : List Addition)
     (fits : StoreFits false store a.history) → KeepsMost store now → AddsOver others store now a.history b.history fits
     → FitsTold told source (Some a) (repo_view store.repo) met state → FitsTold told source (Some b) (repo_view now.repo) met state
@@ -82,6 +133,7 @@ compared_told told source met state a b store now others fits kept over p = reco
   read = p.read;
   beside = beside_over a b (repo_view store.repo) (repo_view now.repo) met state.name state.other p.front kept.keys
       (over_held others store now a.history b.history fits over) kept.names p.beside;
+  matched = matched_told told source a b store now others fits kept.keys over state.matched p.matched;
 }
 
 -- of a target that tells nothing nothing was read
@@ -109,6 +161,7 @@ compared_by told source met state None b store now others kept fits over p =
       front = p.front;
       read = p.read;
       beside = compared_untold (repo_view store.repo) (repo_view now.repo) met state.name state.other p.front p.beside;
+      matched = matched_untold told source (repo_view store.repo) (repo_view now.repo) state.matched p.matched;
     })
 compared_by told source met state (Some a) b store now others kept fits over p =
     let to = over.adds in
@@ -146,6 +199,7 @@ flight_over told source a b store now met flight names others p fits did other =
   stands = p.stands;
   added = p.added;
   work = work_over told source a b store now met names others flight.named flight.options p.added flight.work fits did other p.work;
+  matched = waits_over told source a b store now others flight.matches flight.work did.kept.keys fits did.adds p.matched;
 }
 
 -- what was accepted of its name is committed still
@@ -172,6 +226,29 @@ ends_none : {T : Type 0} (a b : Option Told) (result : Result T CarryFault) → 
 ends_none {T} None b (Ok x) ends none = none_told b ends
 ends_none {T} None b (Err fault) ends none = none_failed (target_failed fault) b ends
 ends_none {T} (Some t) b result ends none = absurd (let no : ⊥ = cc in no)
+
+-- a line that is told changes no file
+matched_files : (told : Option Told) (source : RepoState) (t u : Told) (target : RepoState) → told_files u ≡ told_files t → (matched : Matched)
+    → AreMatched told source (Some t) target matched → AreMatched told source (Some u) target matched
+matched_files told source t u target same [] all = tt
+matched_files told source t u target same (m ∷ matched) all = (
+  record {
+    content = all.0.content;
+    first = all.0.first;
+    second = subst (λ (f : Files). HoldsJoined f target.log target.keys (Some m.1.others) (Some all.0.content)) (sym same) all.0.second;
+  },
+  matched_files told source t u target same matched all.1,
+)
+
+pub matched_behind : (told : Option Told) (source : RepoState) (a b : Option Told) (target : RepoState) (line : List ℕ) (n m : ℕ)
+    → Works {T = Unit {0}} (IsStep (TellOf line)) (λ _. TellsLine line) a b n m (Ok tt) → (matched : Matched)
+    → AreMatched told source a target matched → AreMatched told source b target matched
+matched_behind told source None b target line n m works matched all =
+    subst (λ (o : Option Told). AreMatched told source o target matched) (sym (ends_none {T = Unit {0}} None b (Ok tt) works.ends refl)) all
+matched_behind told source (Some t) b target line n m works matched all =
+    let end = works.end in
+    let same : told_files end.0 ≡ told_files t = ap files_now end.2.1 ∙ files_told line t.history in
+    subst (λ (o : Option Told). AreMatched told source o target matched) (sym end.1) (matched_files told source t end.0 target same matched all)
 
 named_by : (name : List ℕ) (named : ArchiveRef) (id : List ℕ) (archives : List ArchiveRef) (entry : ArchiveRef) (same : Bool)
     → bytes_eq named.name name ≡ same → cond (bytes_eq named.name name) (Some (entry_for named id)) (archive_named name archives) ≡ Some entry
@@ -237,6 +314,17 @@ walk_later told later source after walk alike same fits =
     subst (λ (r : RepoState). IfSome later (λ t. FitsWalk (told_files t) r.log r.keys walk)) (sym same)
     (told_same told later (λ f. FitsWalk f source.log source.keys walk) alike fits)
 
+source_later : (told later : Option Told) (source after : RepoState) (a : Option Told) (target : RepoState) (matched : Matched) → heard later ≡ heard told
+    → after ≡ source → AreMatched told source a target matched → AreMatched later after a target matched
+source_later told later source after a target matched alike same all =
+    matched_later told later source after a a target target alike same refl refl matched all
+
+waits_later : (told later : Option Told) (source after : RepoState) (a : Option Told) (target : RepoState) (matched : Matched) (work : Work)
+    → heard later ≡ heard told → after ≡ source → WaitsMatched told source a target matched work → WaitsMatched later after a target matched work
+waits_later told later source after a target matched Waiting alike same all = source_later told later source after a target matched alike same all
+waits_later told later source after a target matched (Copying copy) alike same all = tt
+waits_later told later source after a target matched (Comparing comparison) alike same all = tt
+
 work_later : (told later : Option Told) (source after : RepoState) (a : Option Told) (store : Store) (met : Seen) (named : ArchiveRef) (options : Options)
     (added : List Addition) (work : Work) → heard later ≡ heard told → after ≡ source → WorkFits (seen told source) a store met named options added work
     → WorkFits (seen later after) a store met named options added work
@@ -257,6 +345,7 @@ work_later told later source after a store met named options added (Comparing co
             read = subst (λ (r : RepoState). IfSome later (λ t. ReadsSoFar (told_files t) r state.name state.walk so.front)) (sym same)
                 (told_same told later (λ f. ReadsSoFar f source state.name state.walk so.front) alike so.read);
             beside = so.beside;
+            matched = source_later told later source after a (repo_view store.repo) state.matched alike same so.matched;
           };
           same_name = was.same_name;
         };
@@ -272,4 +361,51 @@ flight_later told later source after a store met flight alike same p = record {
   stands = subst (λ (r : RepoState). FlightStands r flight) (sym same) p.stands;
   added = p.added;
   work = work_later told later source after a store met flight.named flight.options p.added flight.work alike same p.work;
+  matched = waits_later told later source after a (repo_view store.repo) flight.matches flight.work alike same p.matched;
 }
+
+-- ---- what earlier flights found to be the same
+
+waits_of : (told : Option Told) (source : RepoState) (a : Option Told) (target : RepoState) (matched : Matched) (work : Work)
+    → AreMatched told source a target matched → WaitsMatched told source a target matched work
+waits_of told source a target matched Waiting all = all
+waits_of told source a target matched (Copying copy) all = tt
+waits_of told source a target matched (Comparing comparison) all = tt
+
+-- a flight goes on with it
+pub flight_resumed : (told : Option Told) (source : RepoState) (a : Option Told) (store : Store) (met : Seen) (flight : Flight) (matched : Matched)
+    → AreMatched told source a (repo_view store.repo) matched → (fits : FlightFits told source a store met flight) × (fits.added ≡ [])
+    → (fits : FlightFits told source a store met (record flight { matches = matched })) × (fits.added ≡ [])
+flight_resumed told source a store met flight matched all was = (
+  record {
+    stands = record { options = was.0.stands.options; named = was.0.stands.named; uncounted = was.0.stands.uncounted };
+    added = was.0.added;
+    work = was.0.work;
+    matched = waits_of told source a (repo_view store.repo) matched flight.work all;
+  },
+  was.1,
+)
+
+-- what a flight waits with is so where no step was taken
+pub waits_with : (told : Option Told) (source : RepoState) (a : Option Told) (store : Store) (met : Seen) (flight : Flight) → flight.work ≡ Waiting
+    → FlightFits told source a store met flight → AreMatched told source a (repo_view store.repo) flight.matches
+waits_with told source a store met flight is fits = subst (WaitsMatched told source a (repo_view store.repo) flight.matches) is fits.matched
+
+-- where a turn ends and nothing is known to be the same
+pub ended_matched : (told : Option Told) (source : RepoState) (a : Option Told) (target : RepoState) (matched : Matched) (result : Result Turn CarryFault)
+    → IfOk result (λ turn. turn ≢ More → matched ≡ []) → IfOk result (λ turn. turn ≢ More → AreMatched told source a target matched)
+ended_matched told source a target matched (Ok turn) none = λ ended. subst (AreMatched told source a target) (sym (none ended)) tt
+ended_matched told source a target matched (Err fault) none = tt
+
+-- where an archive is there: what was found stays known, but behind what was pending
+pub present_matched : (told : Option Told) (source : RepoState) (b d : Option Told) (target renewed : RepoState) (pending : ℕ) (was now : Matched)
+    (result : Result Turn CarryFault) → AreMatched told source b target was → (pending ≡ 0 → now ≡ was) → (pending ≢ 0 → now ≡ [])
+    → (pending ≡ 0 → (renewed ≡ target) × (d ≡ b)) → IfOk result (λ turn. turn ≢ More → AreMatched told source d renewed now)
+present_matched told source b d target renewed pending was now (Err fault) all kept gone still = tt
+present_matched told source b d target renewed zero was now (Ok turn) all kept gone still = λ ended.
+    let same = still refl in
+    subst (λ (m : Matched). AreMatched told source d renewed m) (sym (kept refl))
+    (subst (λ (o : Option Told). AreMatched told source o renewed was) (sym same.1)
+    (subst (λ (r : RepoState). AreMatched told source b r was) (sym same.0) all))
+present_matched told source b d target renewed (suc n) was now (Ok turn) all kept gone still = λ ended.
+    subst (AreMatched told source d renewed) (sym (gone (λ is. let no : ⊥ = cc in no))) tt

@@ -33,7 +33,6 @@ use Rattle.ferry_piece.specs.Puts.{Addition, ArePieces, Content, Kind, Stream, W
 use Rattle.ferry_piece.specs.Work.{Works}
 use Rattle.ferry_carry.specs.declared.copy.Copy.{Copy}
 use Rattle.ferry_carry.proofs.ProgressLemmas.{ids_of, held_more, any_told, both_known}
-use Rattle.ferry_carry.specs.Flight.{all_added}
 
 -- ---- the begin
 

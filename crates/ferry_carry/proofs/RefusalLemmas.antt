@@ -13,11 +13,11 @@ use Rattle.ferry_manifest.specs.Record.Text.{archive_view}
 use Rattle.ferry_manifest.specs.declared.manifest.ArchiveRef.{ArchiveRef}
 use Rattle.ferry_repo.proofs.ContentLemmas.{contents_then}
 use Rattle.ferry_repo.proofs.WalkLawLemmas.{some_to_come}
-use Rattle.ferry_repo.specs.Archives.{RefusesContent, archive_named}
+use Rattle.ferry_repo.specs.Archives.{RefusesContent, archive_named, ContentsCome, RefusesJoined}
 use Rattle.ferry_repo.specs.Cached.{Contents}
 use Rattle.ferry_repo.specs.Opening.{FitsRepo, RepoState, repo_view}
 use Rattle.ferry_repo.specs.Walk.{Comes, IsToCome, WalkState, begin_walk, walk_view}
-use Rattle.ferry_repo.specs.Whole.{ContentsCome, RefusesJoined, RefusesWhole}
+use Rattle.ferry_repo.specs.Whole.{RefusesWhole}
 use Rattle.ferry_store.specs.declared.store.Store.{Store}
 use Rattle.ferry_carry.proofs.ProgressLemmas.{any_told}
 use Rattle.ferry_carry.proofs.SourceLemmas.{leads_come, leads_then, refuses_content_here, refuses_copy}

@@ -10,7 +10,6 @@ use Rattle.ferry_manifest.specs.Manifest.Text.{ManifestText}
 use Rattle.ferry_repo.specs.Opening.{repo_view}
 use Rattle.ferry_store.specs.Commit.{accepted_in, IsSettled}
 use Rattle.ferry_store.specs.Store.{IsUnspent, StoreFits}
-use Rattle.ferry_store.specs.declared.fault.StoreRefusal.TheVariants as Stores
 use Rattle.ferry_store.specs.declared.store.Store.{Store}
 use Rattle.ferry_write.specs.Script.{AllDone}
 use Rattle.ferry_piece.proofs.AddingLemmas.{HoldsAll, stops_then}
@@ -33,7 +32,6 @@ use Rattle.ferry_carry.specs.Naming.{TaggedRecord, record_ids}
 use Rattle.ferry_carry.specs.Telling.{CarriesNames, KeepsReported, Reports, TellsNames}
 use Rattle.ferry_piece.specs.Work.{Works}
 use Rattle.ferry_piece.specs.declared.fault.CarryFault.{CarryFault}
-use Rattle.ferry_piece.specs.declared.fault.CarryFault.TheVariants as Carry
 use Rattle.ferry_carry.specs.declared.options.Carried.{Carried}
 use Rattle.ferry_piece.proofs.FewLemmas.{begun_more, begun_then}
 use Rattle.ferry_carry.specs.States.{target_state, drawn_from}

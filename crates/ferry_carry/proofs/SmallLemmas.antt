@@ -21,9 +21,9 @@ use Rattle.ferry_rechunk.specs.Cut.{cut}
 use Rattle.ferry_repo.proofs.ComesLemmas.{whole_comes}
 use Rattle.ferry_repo.proofs.ContentLemmas.{one_record}
 use Rattle.ferry_repo.proofs.WalkLawLemmas.{one_comes}
-use Rattle.ferry_repo.specs.Archives.{HoldsRecord}
+use Rattle.ferry_repo.specs.Archives.{HoldsRecord, ContentsCome, HoldsJoined}
 use Rattle.ferry_repo.specs.Walk.{Comes}
-use Rattle.ferry_repo.specs.Whole.{ContentsCome, HoldsJoined, WholeArchive, WholeItem, WholesCome}
+use Rattle.ferry_repo.specs.Whole.{WholeArchive, WholeItem, WholesCome}
 use Rattle.ferry_carry.proofs.CauseLemmas.{not_there}
 use Rattle.ferry_carry.proofs.LengthLemmas.{IsAlike, alike_text, found_back, found_in, next_alike}
 use Rattle.ferry_carry.specs.Accepting.{AreNamedNext, AreNextOf, HasIdSize, HasLargeNext, IsNextOf, next_named}

@@ -7,9 +7,9 @@ use Rattle.ferry_log.specs.State.{LogState, FitsFiles}
 use Rattle.ferry_mac.specs.declared.keys.Keys.{Keys}
 use Rattle.ferry_manifest.specs.Record.Text.{ArchiveText}
 use Rattle.ferry_manifest.specs.declared.manifest.ArchiveRef.{ArchiveRef}
-use Rattle.ferry_repo.specs.Archives.{archive_named, HoldsRecord}
+use Rattle.ferry_repo.specs.Archives.{archive_named, HoldsRecord, RefusesJoined}
 use Rattle.ferry_repo.specs.Walk.{begin_walk, Comes, IsToCome, LeadsOn, WalkState}
-use Rattle.ferry_repo.specs.Whole.{RefusesJoined, WholeItem, HoldsItem, WholesCome, Reading, ReadsArchive, each_item, IsWhole, RefusesWhole}
+use Rattle.ferry_repo.specs.Whole.{WholeItem, HoldsItem, WholesCome, Reading, ReadsArchive, each_item, IsWhole, RefusesWhole}
 use Rattle.ferry_repo.specs.declared.fault.RepoFault.{RepoFault}
 use Rattle.ferry_repo.proofs.WalkLawLemmas.{some_to_come}
 use Rattle.ferry_repo.proofs.WholeLemmas.{wholes_then, reads_whole}

@@ -8,11 +8,10 @@ use Rattle.ferry_item.specs.Writing.{field_pairs, item_text}
 use Rattle.ferry_item.specs.declared.item.ChunkRef.{ChunkRef}
 use Rattle.ferry_mac.specs.declared.keys.Keys.{Keys}
 use Rattle.ferry_manifest.specs.declared.manifest.ArchiveRef.{ArchiveRef}
-use Rattle.ferry_repo.specs.Archives.{archive_named}
+use Rattle.ferry_repo.specs.Archives.{archive_named, ContentsCome, HoldsJoined}
 use Rattle.ferry_repo.specs.Cached.{Contents}
 use Rattle.ferry_repo.specs.Opening.{FitsRepo, RepoState, repo_view}
 use Rattle.ferry_repo.specs.Walk.{walk_view}
-use Rattle.ferry_repo.specs.Whole.{ContentsCome, HoldsJoined}
 use Rattle.ferry_repo.specs.declared.walk.Walk.{Walk}
 use Rattle.ferry_store.specs.Store.{StoreFits}
 use Rattle.ferry_store.specs.declared.store.Store.{Store}

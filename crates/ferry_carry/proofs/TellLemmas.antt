@@ -47,7 +47,7 @@ pub told_same : (line : List ℕ) (done : Bool) (h : History) → files_now (wit
 told_same line true h = applied-push h.start h.acts (record { step = TellOf line; done = true })
 told_same line false h = applied-push h.start h.acts (record { step = TellOf line; done = false })
 
-files_told : (line : List ℕ) (h : History) → files_now (with_act (TellOf line) true h) ≡ files_now h
+pub files_told : (line : List ℕ) (h : History) → files_now (with_act (TellOf line) true h) ≡ files_now h
 files_told line h = applied-push h.start h.acts (record { step = TellOf line; done = true })
 
 told_taken : (free : ℕ) (line : List ℕ) (done : Bool) (h : History) → AreTaken free h → AreTaken free (with_act (TellOf line) done h)

@@ -14,10 +14,10 @@ use Rattle.ferry_manifest.specs.declared.manifest.ArchiveRef.{ArchiveRef}
 use Rattle.ferry_msgpack.specs.Tree.{Tree}
 use Rattle.ferry_rechunk.specs.Cut.{cut}
 use Rattle.ferry_rechunk.proofs.CutLemmas.{cut_joined}
-use Rattle.ferry_repo.specs.Archives.{archive_named}
+use Rattle.ferry_repo.specs.Archives.{archive_named, ContentsCome, HoldsJoined}
 use Rattle.ferry_repo.specs.Objects.{HoldsChunk}
 use Rattle.ferry_repo.specs.Walk.{HoldChunks, IsStream}
-use Rattle.ferry_repo.specs.Whole.{ContentsCome, HoldsJoined, WholesCome, WholeItem, WholeArchive, IsWhole}
+use Rattle.ferry_repo.specs.Whole.{WholesCome, WholeItem, WholeArchive, IsWhole}
 use Rattle.ferry_carry.specs.Copied.{IsCopyOf, IsRead, adds_of, contents_of, copied_item, pieces_of, stream_block, stream_of, stream_pieces}
 use Rattle.ferry_piece.specs.Gather.{chunks_of}
 use Rattle.ferry_piece.proofs.AmongLemmas.{all_front}
@@ -158,7 +158,7 @@ module _ (files : Files) (log : LogState) (keys : Keys) (others : Files) (after 
   contents_kept (k ∷ ks) [] come = absurd come
   contents_kept (k ∷ ks) (c ∷ cs) come = (record { holds = keeps k.id c come.0.holds; size = come.0.size }, contents_kept ks cs come.1)
 
-  joined_kept : (chunks : Option (List ChunkRef)) (content : Option (List ℕ)) → HoldsJoined files log keys chunks content
+  pub joined_kept : (chunks : Option (List ChunkRef)) (content : Option (List ℕ)) → HoldsJoined files log keys chunks content
       → HoldsJoined others after keys chunks content
   joined_kept None None holds = tt
   joined_kept None (Some content) holds = absurd holds

@@ -10,11 +10,12 @@ use Rattle.ferry_manifest.specs.Record.Text.{archive_view}
 use Rattle.ferry_manifest.specs.Record.Writing.{IsPackableArchive}
 use Rattle.ferry_rechunk.specs.Cut.{cut}
 use Rattle.ferry_rechunk.specs.Cutting.{Cutting}
-use Rattle.ferry_repo.specs.Opening.{RepoState}
+use Rattle.ferry_repo.specs.Opening.{RepoState, repo_view}
 use Rattle.ferry_repo.specs.Walk.{FitsWalk, LeadsOn, WalkState, begin_walk, walk_view}
-use Rattle.ferry_repo.specs.Archives.{HoldsContent, HoldsRecord}
-use Rattle.ferry_repo.specs.Whole.{ContentsCome, HoldsJoined}
-use Rattle.std.specs.List.{concat}
+use Rattle.ferry_repo.specs.Archives.{HoldsContent, HoldsRecord, ContentsCome, HoldsJoined}
+use Rattle.ferry_store.specs.Adding.{IsAnswered, id_under}
+use Rattle.ferry_store.specs.declared.store.Store.{Store}
+use Rattle.std.specs.List.{AllByRecursion, concat}
 use Rattle.ferry_carry.specs.Copied.{stream_block}
 use Rattle.ferry_piece.specs.Gather.{chunks_of}
 use Rattle.ferry_piece.specs.Piece.{BeginsOn, WritesOn}
@@ -86,6 +87,14 @@ CopiesContent told source block keys (Some chunks) more None = ⊥
 CopiesContent told source block keys (Some chunks) more (Some copied) =
     (content : List ℕ) × ((more ≡ cut block content) × ((copied ≡ chunks_of keys (cut block content)) × ((length copied ≤ 4294967295)
     × IfSome told (λ t. HoldsJoined (told_files t) source.log source.keys (Some chunks) (Some content)))))
+
+-- The content of an item with these chunks is in the source, and a store knows each of the pieces into which it is cut; these are the pieces' chunks.
+pub record KnowsContent (told : Option Told) (source : RepoState) (store : Store) (block : ℕ) (chunks copied : List ChunkRef) : Type 0 where
+  pub content : List ℕ
+  pub copied_are : copied ≡ chunks_of (repo_view store.repo).keys (cut block content)
+  pub few : length copied ≤ 4294967295
+  pub holds : IfSome told (λ t. HoldsJoined (told_files t) source.log source.keys (Some chunks) (Some content))
+  pub answered : AllByRecursion (λ (piece : List ℕ). IsAnswered store (id_under store piece)) (cut block content)
 
 -- The spelling of an item was written into the stream, and is read as the item.
 pub record WritesItem (keys : Keys) (cutter : Cutting) (chunks : List ChunkRef) (item : ItemText) (more : List (List ℕ)) (cutter_now : Cutting)

@@ -9,11 +9,10 @@ use Rattle.ferry_mac.specs.declared.keys.Keys.{Keys}
 use Rattle.ferry_manifest.specs.Manifest.Text.{ManifestText}
 use Rattle.ferry_manifest.specs.declared.manifest.ArchiveRef.{ArchiveRef}
 use Rattle.ferry_rechunk.specs.Cutting.{Cutting, IsFed}
-use Rattle.ferry_repo.specs.Archives.{RefusesContent, RefusesRecord, archive_named}
+use Rattle.ferry_repo.specs.Archives.{RefusesContent, RefusesRecord, archive_named, ContentsCome}
 use Rattle.ferry_repo.specs.Fault.{IsOfFiles}
 use Rattle.ferry_repo.specs.Opening.{RepoState, repo_view}
 use Rattle.ferry_repo.specs.Walk.{IsToCome, walk_view}
-use Rattle.ferry_repo.specs.Whole.{ContentsCome}
 use Rattle.ferry_repo.specs.declared.fault.RepoFault.{RepoFault}
 use Rattle.ferry_store.specs.Commit.{accepted_in}
 use Rattle.ferry_store.specs.declared.store.Store.{Store}

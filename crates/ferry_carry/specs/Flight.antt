@@ -2,6 +2,7 @@
 use Rattle.std.specs.Prelude.{◌≡◌, ◌≤◌, ◌+◌, ◌*◌, ℕ, Bool, true, false, List, [], ◌∷◌, ◌++◌, length, Option, Some, None, Result, Ok, Err, IfErr, IfOk, IfSome}
 use Rattle.std.specs.Prelude.{IsSome}
 use Rattle.ferry_compare.specs.Compare.{FitsTold, Seen, comparison_view, met_behind, seen}
+use Rattle.ferry_compare.specs.Matched.{AreMatched, Matched}
 use Rattle.ferry_compare.specs.declared.comparison.Comparison.{Comparison}
 use Rattle.ferry_disk.specs.Device.{Told, told_files}
 use Rattle.ferry_disk.specs.Moments.{Between}
@@ -81,10 +82,23 @@ WorkFits source heard store met named options added (Copying copy) = FitsCopying
 WorkFits source heard store met named options added (Comparing comparison) =
     FitsComparing source.told source.repo heard (repo_view store.repo) met named.name comparison × (added ≡ [])
 
+-- What earlier flights found to be the same is so, where no step was taken yet.
+abbrev pub WaitsMatched : Option Told → RepoState → Option Told → RepoState → Matched → Work → Type 0
+WaitsMatched told source heard target matched Waiting = AreMatched told source heard target matched
+WaitsMatched told source heard target matched (Copying copy) = Unit {0}
+WaitsMatched told source heard target matched (Comparing comparison) = Unit {0}
+
+-- what was found to be the same by what is under way
+abbrev pub matched_in : Work → Matched
+matched_in Waiting = []
+matched_in (Copying copy) = []
+matched_in (Comparing comparison) = (comparison_view comparison).matched
+
 pub record FlightFits (told : Option Told) (source : RepoState) (heard : Option Told) (store : Store) (met : Seen) (flight : Flight) : Type 0 where
   pub stands : FlightStands source flight
   pub added : List Addition
   pub work : WorkFits (seen told source) heard store met flight.named flight.options added flight.work
+  pub matched : WaitsMatched told source heard (repo_view store.repo) flight.matches flight.work
 
 -- the target in which a difference was met, by what was under way before a turn: this one, where it was met before, or else the one that is read by the turn
 abbrev pub met_by : Work → Seen → Seen → Seen

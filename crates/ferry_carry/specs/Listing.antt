@@ -12,10 +12,10 @@ use Rattle.ferry_manifest.specs.Record.Text.{ArchiveText}
 use Rattle.ferry_manifest.specs.declared.manifest.ArchiveRef.{ArchiveRef}
 use Rattle.ferry_rechunk.specs.Cut.{cut}
 use Rattle.ferry_rechunk.specs.Cutting.{IsFed}
-use Rattle.ferry_repo.specs.Archives.{HoldsRecord, archive_named}
+use Rattle.ferry_repo.specs.Archives.{HoldsRecord, archive_named, ContentsCome}
 use Rattle.ferry_repo.specs.Opening.{RepoState}
 use Rattle.ferry_repo.specs.Walk.{Comes}
-use Rattle.ferry_repo.specs.Whole.{ContentsCome, HoldsItem, WholeArchive, WholeItem, WholesCome}
+use Rattle.ferry_repo.specs.Whole.{HoldsItem, WholeArchive, WholeItem, WholesCome}
 use Rattle.ferry_repo.specs.declared.fault.RepoFault.{RepoFault}
 use Rattle.ferry_carry.specs.Carrying.{Origin, SaysIn}
 use Rattle.ferry_carry.specs.Copied.{IsCopyOf, copied_item, pieces_of, stream_block}

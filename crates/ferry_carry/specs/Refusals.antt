@@ -15,11 +15,11 @@ use Rattle.ferry_manifest.specs.Manifest.Writing.{IsPackable, manifest_text}
 use Rattle.ferry_manifest.specs.Record.Text.{ArchiveText}
 use Rattle.ferry_manifest.specs.Record.Writing.{archive_text}
 use Rattle.ferry_manifest.specs.declared.manifest.ArchiveRef.{ArchiveRef}
-use Rattle.ferry_repo.specs.Archives.{HoldsRecord, IsNoRecord, RefusesContent, RefusesRecord, archive_named}
+use Rattle.ferry_repo.specs.Archives.{HoldsRecord, IsNoRecord, RefusesContent, RefusesRecord, archive_named, RefusesJoined}
 use Rattle.ferry_repo.specs.Fault.{IsOfFiles}
 use Rattle.ferry_repo.specs.Opening.{RepoState, repo_view}
 use Rattle.ferry_repo.specs.Walk.{Comes, IsToCome, WalkState}
-use Rattle.ferry_repo.specs.Whole.{RefusesJoined, RefusesWhole, WholeArchive, WholeItem, WholesCome}
+use Rattle.ferry_repo.specs.Whole.{RefusesWhole, WholeArchive, WholeItem, WholesCome}
 use Rattle.ferry_repo.specs.declared.fault.RepoFault.{RepoFault}
 use Rattle.ferry_store.specs.Commit.{accepted_in}
 use Rattle.ferry_store.specs.Store.{IsUnspent, StoreFits}

@@ -3,7 +3,7 @@ ghost use Rattle.std.specs.Prelude.{◌≡◌, ◌⊎◌, ◌++◌, ℕ, List, [
 ghost use Rattle.std.specs.Prelude.{Err, true, false, slice_get, IfErr, IfOk, IfSome, IsSome, MatchResult, OnOk};
 ghost use Rattle.ferry_carry.specs.Chosen.{IsMissingName, TellsLine};
 ghost use Rattle.ferry_carry.specs.Counting.{TellsNew, nothing_carried};
-ghost use Rattle.ferry_carry.specs.Flight.{AreRight, FlightFits, TakesAll, flown_from, origin_of, archive_adds};
+ghost use Rattle.ferry_carry.specs.Flight.{AreRight, FlightFits, TakesAll, flown_from, matched_in, origin_of, archive_adds};
 ghost use Rattle.ferry_carry.specs.Lines.{name_line, told_of};
 ghost use Rattle.ferry_carry.specs.Naming.{TaggedRecord, TagsDrawn};
 ghost use Rattle.ferry_piece.specs.Adding.{IsNoChunk};
@@ -12,6 +12,7 @@ ghost use Rattle.ferry_carry.specs.Refusals.{RefusesName, RefusesNames, RefusesO
 ghost use Rattle.ferry_carry.specs.Telling.{AcceptsNames, Reports, ReportsWhole};
 ghost use Rattle.ferry_piece.specs.Work.{Works};
 ghost use Rattle.ferry_compare.specs.Compare.{seen};
+ghost use Rattle.ferry_compare.specs.Matched.{AreMatched};
 ghost use Rattle.ferry_disk.specs.Act.{TellOf};
 ghost use Rattle.ferry_repo.specs.Archives.{archive_named};
 ghost use Rattle.ferry_repo.specs.Opening.{repo_view};
@@ -26,11 +27,13 @@ use crate::flight::{Flight, Turn};
 use crate::lines::{name_line, total_line};
 use crate::options::{Carried, Options};
 use ferry_base::Bytes;
+use ferry_compare::Matches;
 use ferry_disk::{Depot, Entropy, Shelf};
 use ferry_piece::CarryFault;
 use ferry_repo::Repo;
 use ferry_store::Store;
 use std::alloc::Global;
+use std::mem;
 
 /// The place of the first of these names that no archive of the repository has.
 pub fn missing_name(repo: &Repo, names: &[Bytes]) -> Option<usize>
@@ -85,12 +88,21 @@ pub fn carry<S: Shelf, D: Depot, E: Entropy>(
         return Err(CarryFault::NotFound(Bytes::new(name)));
     }
     let mut carried = Carried::nothing();
+    let mut matches = Matches::new(alloc);
     let order = Order {
         alloc,
         names,
         options,
     };
-    order.carry_all(source, shelf, store, depot, entropy, &mut carried)?;
+    order.carry_all(
+        source,
+        shelf,
+        store,
+        depot,
+        entropy,
+        &mut carried,
+        &mut matches,
+    )?;
     let line = total_line(alloc, &carried)?;
     tell(store, depot, &line)?;
     Ok(carried)
@@ -114,11 +126,13 @@ impl Order<'_> {
         depot: &mut D,
         entropy: &mut E,
         carried: &mut Carried,
+        matches: &mut Matches,
     ) -> Result<(), CarryFault>
         requires both { CanCarryFrom self.now.options.now.checkpoint (source_state (S.told shelf.old) (S.faults shelf.old) source.old)
             (target_state (D.told depot.old) (D.faults depot.old) store.old) }
         requires options { AreRight self.now.options.now }
         requires uncounted { carried.old ≡ nothing_carried }
+        requires matched { AreMatched (S.told shelf.old) (repo_view source.old) (D.told depot.old) (repo_view store.old.repo) matches.old }
         ensures works { Reports (origin_of (S.told shelf.old) (repo_view source.old) self.now.options.now) self.now.names.now
             (target_state (D.told depot.old) (D.faults depot.old) store.old) (target_state (D.told depot.new) (D.faults depot.new) store.new) carried.old
             carried.new (drawn_from (E.drawn entropy.old) (E.drawn entropy.new)) result }
@@ -137,7 +151,7 @@ impl Order<'_> {
                 name,
                 options: self.options,
             };
-            single.carry_one(source, shelf, store, depot, entropy, carried)?;
+            single.carry_one(source, shelf, store, depot, entropy, carried, matches)?;
         }
         Ok(())
     }
@@ -161,10 +175,13 @@ impl Single<'_> {
         depot: &mut D,
         entropy: &mut E,
         carried: &mut Carried,
+        matches: &mut Matches,
     ) -> Result<(), CarryFault>
         requires both { CanCarryFrom self.now.options.now.checkpoint (source_state (S.told shelf.old) (S.faults shelf.old) source.old)
             (target_state (D.told depot.old) (D.faults depot.old) store.old) }
         requires options { AreRight self.now.options.now }
+        requires matched { AreMatched (S.told shelf.old) (repo_view source.old) (D.told depot.old) (repo_view store.old.repo) matches.old }
+        ensures matched { OnOk result (AreMatched (S.told shelf.new) (repo_view source.new) (D.told depot.new) (repo_view store.new.repo) matches.new) }
         ensures works { Reports (origin_of (S.told shelf.old) (repo_view source.old) self.now.options.now) (self.now.name.now ∷ [])
             (target_state (D.told depot.old) (D.faults depot.old) store.old) (target_state (D.told depot.new) (D.faults depot.new) store.new) carried.old
             carried.new (drawn_from (E.drawn entropy.old) (E.drawn entropy.new)) result }
@@ -177,7 +194,9 @@ impl Single<'_> {
             (target_state (D.told depot.new) (D.faults depot.new) store.new) (E.faults entropy.old) (E.faults entropy.new) result }
     {
         let mut flight = Flight::begin(self.alloc, source, self.name, self.options)?;
+        flight.resume(mem::replace(matches, Matches::new(self.alloc)));
         let done = flight.complete(source, shelf, store, depot, entropy, carried);
+        drop(mem::replace(matches, flight.take_matches()));
         // By a call: at a scope's end each of its parts would have to be gone through here.
         drop(flight);
         done
@@ -202,6 +221,8 @@ impl Flight {
         ensures works { Reports (flown_from (S.told shelf.old) (repo_view source.old) self.old) (self.old.named.name ∷ [])
             (target_state (D.told depot.old) (D.faults depot.old) store.old) (target_state (D.told depot.new) (D.faults depot.new) store.new) carried.old
             carried.new (drawn_from (E.drawn entropy.old) (E.drawn entropy.new)) result }
+        ensures matched { OnOk result (AreMatched (S.told shelf.new) (repo_view source.new) (D.told depot.new) (repo_view store.new.repo)
+            (matched_in self.new.work)) }
         ensures refused { IfErr result (RefusesName (flown_from (S.told shelf.old) (repo_view source.old) self.old) (D.told depot.old) store.old
             (D.told depot.new) store.new self.old.named.name) }
         ensures stops { IfErr result (StopsName (flown_from (S.told shelf.old) (repo_view source.old) self.old) self.old.named.name store.old
@@ -239,6 +260,8 @@ fn fly<S: Shelf, D: Depot, E: Entropy>(
         (E.drawn entropy.old) (E.drawn entropy.new)) (λ fault. IsNoChunk fault ⊎ WhereTold
         (flown_from (S.told shelf.old) (repo_view source.old) flight.old) (D.told depot.old) (λ _. TagsDrawn (repo_view store.old.repo).keys
         (fits.added ++ more) (E.drawn entropy.old) (E.drawn entropy.new))))) }
+    ensures matched { OnOk result (AreMatched (S.told shelf.new) (repo_view source.new) (D.told depot.new) (repo_view store.new.repo)
+        (matched_in flight.new.work)) }
     ensures word { IfOk result (λ copied. TellsNew (accepted_in store.old) [] flight.old.named.name copied) }
     ensures name { OnOk result (flight.new.named ≡ flight.old.named) }
     ensures refused { IfErr result (StopsFlight (flown_from (S.told shelf.old) (repo_view source.old) flight.old) (D.told depot.old) store.old

@@ -1,13 +1,14 @@
 //! An archive that the target lacks.
 ghost use Rattle.std.specs.Prelude.{◌≡◌, ◌≤◌, ◌^◌, ◌-◌, ◌++◌, [], List, Some, None, Ok};
-ghost use Rattle.std.specs.Prelude.{true, false, min, IfErr, IfOk, IfSome, MatchResult, OnOk, Option, ℕ};
-ghost use Rattle.ferry_disk.specs.Device.{told_files};
+ghost use Rattle.std.specs.Prelude.{true, false, min, IfErr, IfOk, IfSome, IsTrue, MatchResult, OnOk, Option, ℕ};
+ghost use Rattle.std.specs.List.{AllByRecursion};
+ghost use Rattle.ferry_disk.specs.Device.{Told, told_files};
 ghost use Rattle.ferry_disk.specs.Files.{Files};
 ghost use Rattle.ferry_piece.specs.Adding.{AddsOn};
 ghost use Rattle.ferry_carry.specs.Carrying.{origin};
 ghost use Rattle.ferry_carry.specs.Copied.{IsRead, stream_block};
 ghost use Rattle.ferry_carry.specs.Copying.{BeginsChunk, BeginsContent, BeginsContents, CopiesContent, IsReady, IsUnused, TakesItem, writer_state};
-ghost use Rattle.ferry_carry.specs.Copying.{WritesContent, WritesContents, WritesItem, BeginsCopy, KeepsCopy, KeepsContents, FitsCopy};
+ghost use Rattle.ferry_carry.specs.Copying.{KnowsContent, WritesContent, WritesContents, WritesItem, BeginsCopy, KeepsCopy, KeepsContents, FitsCopy};
 ghost use Rattle.ferry_piece.specs.Fault.{IsOfSource, shelf_failed};
 ghost use Rattle.ferry_carry.specs.Filling.{FillsChunks, FillsContent, FillsOne, FillsStep, WhereHeard, WhereSource};
 ghost use Rattle.ferry_carry.specs.Listing.{BeginsOne};
@@ -29,6 +30,7 @@ ghost use Rattle.ferry_repo.specs.Opening.{repo_view};
 ghost use Rattle.ferry_repo.specs.Walk.{FitsWalk, IsToCome, begin_walk, walk_view};
 ghost use Rattle.ferry_carry.specs.Calls.{ReadsSource, FitsShelf, TakesBytes, AddsPieces, SparesTarget, CanAdd, IsOfTarget};
 ghost use Rattle.ferry_carry.specs.Flight.{AreRight};
+ghost use Rattle.ferry_store.specs.Adding.{IsAnswered};
 ghost use Rattle.ferry_carry.specs.States.{source_state, target_state};
 ghost use Rattle.ferry_carry.specs.Calls.{CanCopy, Copies};
 
@@ -233,8 +235,45 @@ impl Copy {
         }
     }
 
-    /// Copies the content that these chunks are.
+    /// Copies the content that these chunks are. One that was copied before in this run isn't read again.
     fn copy_content<S: Shelf, D: Depot>(
+        &mut self,
+        source: &mut Repo,
+        shelf: &mut S,
+        store: &mut Store,
+        depot: &mut D,
+        chunks: &[ChunkRef],
+    ) -> Result<ChunkRefs, CarryFault>
+        requires both { CanCopy self.old.contents.checkpoint (source_state (S.told shelf.old) (S.faults shelf.old) source.old)
+            (target_state (D.told depot.old) (D.faults depot.old) store.old) }
+        requires ready { IsReady self.old }
+        ensures copied { (more : List Addition) × (AddsOn self.old.contents.checkpoint store.old more store.new
+            (D.told depot.old) (D.told depot.new) (D.faults depot.old) (D.faults depot.new) result
+            × (AreOf Content more × (BeginsContent (S.told shelf.old) (repo_view source.old) self.old.block (Some chunks.now) (contents_in more)
+            × ((IfErr result (λ fault. WhereSource (S.told shelf.old) fault (λ there refusal.
+            FillsContent there (repo_view source.old) self.old.block (Some chunks.now) refusal (contents_in more))))
+            × (IfOk result (λ copied. CopiesContent (S.told shelf.old) (repo_view source.old) self.old.block (repo_view store.old.repo).keys
+            (Some chunks.now) (contents_in more) (Some copied)) × OnOk result (CountsOn Content self.old.contents more self.new.contents)))))) }
+        ensures refused { IfErr result (RefusesCopying (S.told shelf.old) (repo_view source.old) self.old.block (Some chunks.now)) }
+        ensures contents { OnOk result (KeepsContents self.old self.new) }
+        ensures both { Copies self.old.contents.checkpoint (source_state (S.told shelf.old) (S.faults shelf.old) source.old)
+            (source_state (S.told shelf.new) (S.faults shelf.new) source.new) (target_state (D.told depot.old) (D.faults depot.old) store.old)
+            (target_state (D.told depot.new) (D.faults depot.new) store.new) result }
+    {
+        if let Some(copied) = known_content(self.alloc, source, store, self.block, chunks) {
+            return Ok(copied);
+        }
+        match self.cut_content(source, shelf, store, depot, chunks) {
+            Ok(copied) => {
+                source.note(store.keys(), self.block, chunks, copied.as_slice());
+                Ok(copied)
+            }
+            Err(fault) => Err(fault),
+        }
+    }
+
+    /// Reads the content that these chunks are, cuts it, and adds the pieces.
+    fn cut_content<S: Shelf, D: Depot>(
         &mut self,
         source: &mut Repo,
         shelf: &mut S,
@@ -361,6 +400,41 @@ fn begin_parts(
     Ok((walk, contents, stream))
 }
 
+/// The target's chunks of the content of an item with these chunks, where it was cut before and the store knows each of its pieces.
+fn known_content(
+    alloc: Global,
+    source: &Repo,
+    store: &Store,
+    block: usize,
+    chunks: &[ChunkRef],
+) -> Option<ChunkRefs>
+    ensures known { IfSome result (λ copied. (told : Option Told) → FitsShelf told source.now
+        → KnowsContent told (repo_view source.now) store.now block chunks.now copied) }
+{
+    let pieces = source.noted(store.keys(), block, chunks)?;
+    if pieces.len() > MOST_PIECES as usize || !are_known(store, pieces) {
+        return None;
+    }
+    match Vec::from_slice(alloc, pieces) {
+        Ok(copied) => Some(ChunkRefs::new(copied)),
+        Err(_) => None,
+    }
+}
+
+/// Whether a store knows the contents of all these chunks.
+fn are_known(store: &Store, pieces: &[ChunkRef]) -> bool
+    ensures known { IsTrue result → AllByRecursion (λ piece. IsAnswered store.now piece.id) pieces.now }
+{
+    let mut rest = pieces;
+    while let [piece, behind @ ..] = rest {
+        if !store.knows(&piece.id) {
+            return false;
+        }
+        rest = behind;
+    }
+    true
+}
+
 /// Prepares the pieces that come next, where none is prepared: of these chunks, and of the items that follow. Only time depends on it.
 fn foresee(writer: &mut PieceWriter, walk: &Walk, source: &Repo, store: &Store, chunks: &[ChunkRef])
     ensures same { writer.new ≡ writer.old }
@@ -371,7 +445,7 @@ fn foresee(writer: &mut PieceWriter, walk: &Walk, source: &Repo, store: &Store, 
     if !writer.looks_ahead(chunk) {
         return;
     }
-    if let Ok(lists) = walk.lists_ahead() {
+    if let Ok(lists) = walk.lists_ahead(source) {
         writer.foresee(source, store, chunks, lists.as_slice());
     }
 }

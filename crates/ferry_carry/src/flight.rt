@@ -1,14 +1,15 @@
 //! One archive, item by item.
-ghost use Rattle.std.specs.Prelude.{◌≡◌, ◌⊎◌, ℕ, List, Option, None, Ok, [], true, false, IfErr, IfOk, IsSome, MatchResult, OnOk};
+ghost use Rattle.std.specs.Prelude.{◌≡◌, ◌≢◌, ◌⊎◌, ℕ, List, Option, None, Ok, [], true, false, IfErr, IfOk, IsSome, MatchResult, OnOk};
 ghost use Rattle.ferry_piece.specs.Adding.{AddsOn, BeginsSegments, IsNoChunk, SparesStore};
 ghost use Rattle.ferry_carry.specs.Accepting.{NamesNew};
 ghost use Rattle.ferry_carry.specs.Flight.{AreRight, FlightFits, FlightStands, TakesTurn, flown_from, FitsComparing, FitsNamed, FitsCopying};
-ghost use Rattle.ferry_carry.specs.Flight.{archive_adds, met_by};
+ghost use Rattle.ferry_carry.specs.Flight.{archive_adds, matched_in, met_by};
 ghost use Rattle.ferry_piece.specs.Gather.{GathersAt, KeepsStandingAt};
 ghost use Rattle.ferry_carry.specs.Naming.{TaggedRecord, TagsDrawn};
 ghost use Rattle.ferry_carry.specs.Progress.{IsCopiedSoFar};
 ghost use Rattle.ferry_piece.specs.Puts.{Addition, AtBegin};
 ghost use Rattle.ferry_piece.specs.Work.{Works};
+ghost use Rattle.ferry_compare.specs.Matched.{AreMatched};
 ghost use Rattle.ferry_compare.specs.Compare.{FitsTold, Seen, comparison_view, met_behind, seen};
 ghost use Rattle.ferry_disk.specs.Device.{Told, heard};
 ghost use Rattle.ferry_repo.specs.Archives.{archive_named};
@@ -20,7 +21,7 @@ ghost use Rattle.ferry_carry.specs.Turns.{OnlyCompares, OnlyReads, DrawsInTurn, 
 use crate::copy::Copy;
 use crate::options::{Carried, Options};
 use ferry_base::Bytes;
-use ferry_compare::{Compared, Comparison};
+use ferry_compare::{Compared, Comparison, Matches};
 use ferry_disk::{Depot, Entropy, Shelf};
 use ferry_manifest::ArchiveRef;
 use ferry_piece::{CarryFault, commit_pieces};
@@ -49,6 +50,7 @@ pub struct Flight {
     pub(crate) named: ArchiveRef,
     pub(crate) options: Options,
     work: Work,
+    matches: Matches,
     put: Carried,
 }
 
@@ -99,6 +101,7 @@ impl Flight {
             named,
             options: copy_options(alloc, options)?,
             work: Work::Waiting,
+            matches: Matches::new(alloc),
             put: Carried::nothing(),
         })
     }
@@ -113,6 +116,38 @@ impl Flight {
         ensures { result.now ≡ self.now.named.name }
     {
         self.named.name.as_slice()
+    }
+
+    /// Goes on with the contents that earlier flights found to be the same.
+    pub(crate) fn resume(&mut self, matches: Matches)
+        ensures resumed { self.new ≡ record self.old { matches = matches } }
+    {
+        drop(mem::replace(&mut self.matches, matches));
+    }
+
+    /// The contents that were found to be the same, where the archive was compared to its end.
+    pub(crate) fn take_matches(&mut self) -> Matches
+        ensures matches { result ≡ matched_in self.old.work }
+    {
+        match mem::replace(&mut self.work, Work::Waiting) {
+            Work::Comparing(comparison) => comparison.into_matches(),
+            Work::Copying(copy) => {
+                drop(copy);
+                Matches::new(self.alloc)
+            }
+            Work::Waiting => Matches::new(self.alloc),
+        }
+    }
+
+    /// Lets what is under way go, where this number isn't 0.
+    fn let_go(&mut self, pending: u64)
+        ensures kept { pending ≡ 0 → self.new ≡ self.old }
+        ensures gone { pending ≢ 0 → matched_in self.new.work ≡ [] }
+        ensures others { self.new ≡ record self.old { work = self.new.work } }
+    {
+        if pending != 0 {
+            self.work.renew(Work::Waiting);
+        }
     }
 
     /// The pieces that were put for the archive, once it is named.
@@ -153,6 +188,8 @@ impl Flight {
         ensures refused { (met : Seen) → FlightFits (S.told shelf.old) (repo_view source.old) (D.told depot.old) store.old met self.old
             → IfErr result (StopsTurn (flown_from (S.told shelf.old) (repo_view source.old) self.old) (D.told depot.old) store.old (D.told depot.new)
             store.new (met_by self.old.work met (seen (D.told depot.new) (repo_view store.new.repo))) self.old.named) }
+        ensures matched { IfOk result (λ turn. turn ≢ Turn.More → AreMatched (S.told shelf.new) (repo_view source.new) (D.told depot.new)
+            (repo_view store.new.repo) (matched_in self.new.work)) }
         ensures reads { ReadsWhere self.old.work (target_state (D.told depot.old) (D.faults depot.old) store.old)
             (target_state (D.told depot.new) (D.faults depot.new) store.new) result }
     {
@@ -175,6 +212,7 @@ impl Flight {
         requires both { CanTurn self.old.options.checkpoint self.old.named.name (source_state (S.told shelf.old) (S.faults shelf.old) source.old)
             (target_state (D.told depot.old) (D.faults depot.old) store.old) }
         requires flight { FlightStands (repo_view source.old) self.old }
+        requires matched { AreMatched (S.told shelf.old) (repo_view source.old) (D.told depot.old) (repo_view store.old.repo) self.old.matches }
         ensures works { (more : List Addition) × ((records : List TaggedRecord) × (TakesTurn (seen (S.told shelf.new) (repo_view source.new))
             (flown_from (S.told shelf.old) (repo_view source.old) self.old) (archive_adds self.old.named.name [] more records)
             (target_state (D.told depot.old) (D.faults depot.old) store.old) (target_state (D.told depot.new) (D.faults depot.new) store.new)
@@ -182,6 +220,8 @@ impl Flight {
             NamesNew self.old.options.timestamp (repo_view source.old) store.old self.old.named records store.new (E.drawn entropy.old)
             (E.drawn entropy.new)) (λ fault. IsNoChunk fault ⊎ TagsDrawn (repo_view store.old.repo).keys more (E.drawn entropy.old)
             (E.drawn entropy.new)))) }
+        ensures matched { IfOk result (λ turn. turn ≢ Turn.More → AreMatched (S.told shelf.new) (repo_view source.new) (D.told depot.new)
+            (repo_view store.new.repo) (matched_in self.new.work)) }
         ensures draws { DrawsInTurn (E.drawn entropy.old) (E.drawn entropy.new) (E.faults entropy.old) (E.faults entropy.new) result }
         ensures turn { Turns self.old self.new (source_state (S.told shelf.old) (S.faults shelf.old) source.old)
             (source_state (S.told shelf.new) (S.faults shelf.new) source.new) (target_state (D.told depot.old) (D.faults depot.old) store.old)
@@ -221,6 +261,7 @@ impl Flight {
             × MatchResult result (λ turn. turn ≡ Turn.Named → NamesNew self.old.options.timestamp (repo_view source.old) store.old
             self.old.named records store.new (E.drawn entropy.old) (E.drawn entropy.new)) (λ fault. IsNoChunk fault ⊎ TagsDrawn
             (repo_view store.old.repo).keys more (E.drawn entropy.old) (E.drawn entropy.new)))) }
+        ensures matched { IfOk result (λ turn. turn ≢ Turn.More → matched_in self.new.work ≡ []) }
         ensures draws { DrawsInTurn (E.drawn entropy.old) (E.drawn entropy.new) (E.faults entropy.old) (E.faults entropy.new) result }
         ensures turn { Turns self.old self.new (source_state (S.told shelf.old) (S.faults shelf.old) source.old)
             (source_state (S.told shelf.new) (S.faults shelf.new) source.new) (target_state (D.told depot.old) (D.faults depot.old) store.old)
@@ -238,6 +279,7 @@ impl Flight {
                 let put = self.end_copy(&mut copy, source, store, depot, entropy);
                 drop(copy);
                 self.put = put?;
+                self.work.renew(Work::Waiting);
                 Ok(Turn::Named)
             }
             Err(fault) => {
@@ -267,6 +309,8 @@ impl Flight {
             (target_state (D.told depot.old) (D.faults depot.old) store.old) (target_state (D.told depot.new) (D.faults depot.new) store.new)
             (met_behind (comparison_view comparison).other met (seen (D.told depot.new) (repo_view store.new.repo))) self.new result }
         ensures only { OnlyCompares result }
+        ensures matched { IfOk result (λ turn. turn ≢ Turn.More → AreMatched (S.told shelf.new) (repo_view source.new) (D.told depot.new)
+            (repo_view store.new.repo) (matched_in self.new.work)) }
         ensures turn { Turns self.old self.new (source_state (S.told shelf.old) (S.faults shelf.old) source.old)
             (source_state (S.told shelf.new) (S.faults shelf.new) source.new) (target_state (D.told depot.old) (D.faults depot.old) store.old)
             (target_state (D.told depot.new) (D.faults depot.new) store.new) result }
@@ -282,7 +326,10 @@ impl Flight {
         self.work.renew(Work::Comparing(comparison));
         match compared? {
             Compared::More => Ok(Turn::More),
-            Compared::Equal => present(store, depot),
+            Compared::Equal => {
+                self.let_go(store.pending());
+                present(store, depot)
+            }
             Compared::Differs => Err(taken(self.alloc, self.named.name.as_slice())),
         }
     }
@@ -290,7 +337,7 @@ impl Flight {
     /// Begins to compare.
     #[tactic(auto, using(ferry_piece::proofs::FaultLemmas::conversions))]
     fn begin_comparing<S: Shelf, D: Depot>(
-        &self,
+        &mut self,
         source: &mut Repo,
         shelf: &mut S,
         store: &mut Store,
@@ -298,19 +345,29 @@ impl Flight {
     ) -> Result<Comparison, CarryFault>
         requires both { CanCompare (source_state (S.told shelf.old) (S.faults shelf.old) source.old)
             (target_state (D.told depot.old) (D.faults depot.old) store.old) }
-        requires flight { FlightStands (repo_view source.old) self.now }
-        requires there { IsSome (archive_named self.now.named.name (repo_view store.old.repo).manifest.archives) }
+        requires flight { FlightStands (repo_view source.old) self.old }
+        requires matched { AreMatched (S.told shelf.old) (repo_view source.old) (D.told depot.old) (repo_view store.old.repo) self.old.matches }
+        requires there { IsSome (archive_named self.old.named.name (repo_view store.old.repo).manifest.archives) }
         ensures works { (most : ℕ) → AddsOn most store.old [] store.new
             (D.told depot.old) (D.told depot.new) (D.faults depot.old) (D.faults depot.new) result }
         ensures comparison { IfOk result (FitsNamed (S.told shelf.new) (repo_view source.new) (D.told depot.new) (repo_view store.new.repo)
-            (seen (D.told depot.new) (repo_view store.new.repo)) self.now.named.name) }
-        ensures refused { StopsComparing (S.told shelf.old) (repo_view source.old) self.now.named.name result }
+            (seen (D.told depot.new) (repo_view store.new.repo)) self.old.named.name) }
+        ensures others { self.new ≡ record self.old { matches = self.new.matches } }
+        ensures refused { StopsComparing (S.told shelf.old) (repo_view source.old) self.old.named.name result }
         ensures both { Compares (source_state (S.told shelf.old) (S.faults shelf.old) source.old)
             (source_state (S.told shelf.new) (S.faults shelf.new) source.new) (target_state (D.told depot.old) (D.faults depot.old) store.old)
             (target_state (D.told depot.new) (D.faults depot.new) store.new) result }
     {
         let name = self.named.name.as_slice();
-        let comparison = Comparison::begin(self.alloc, source, shelf, store.repo(), depot, name)?;
+        let mut comparison = Comparison::begin(
+            self.alloc,
+            source,
+            shelf,
+            store.repo(),
+            depot,
+            name,
+        )?;
+        comparison.resume(mem::replace(&mut self.matches, Matches::new(self.alloc)));
         Ok(comparison)
     }
 }
@@ -334,6 +391,8 @@ fn compare_item<S: Shelf, D: Depot>(
         (comparison_view comparison.old) → result ≡ Ok Compared.More
         → FitsTold (S.told shelf.new) (repo_view source.new) (D.told depot.new) (repo_view store.new.repo)
         (met_behind (comparison_view comparison.old).other met (seen (D.told depot.new) (repo_view store.new.repo))) (comparison_view comparison.new) }
+    ensures matched { OnOk result (AreMatched (S.told shelf.new) (repo_view source.new) (D.told depot.new) (repo_view store.new.repo)
+        (comparison_view comparison.new).matched) }
     ensures name { (comparison_view comparison.new).name ≡ (comparison_view comparison.old).name }
     ensures found { (met : Seen) → FitsTold (S.told shelf.old) (repo_view source.old) (D.told depot.old) (repo_view store.old.repo) met
         (comparison_view comparison.old) → Finds (S.told shelf.old) (repo_view source.old) (D.told depot.new) (repo_view store.new.repo)
@@ -354,6 +413,7 @@ fn present<D: Depot>(store: &mut Store, depot: &mut D) -> Result<Turn, CarryFaul
     requires target { CanWrite (D.told depot.old) store.old }
     ensures works { (most : ℕ) → Works (KeepsStandingAt AtBegin most store.old []) (λ _. GathersAt AtBegin most store.old [] store.new)
         (D.told depot.old) (D.told depot.new) (D.faults depot.old) (D.faults depot.new) result }
+    ensures still { store.old.pending ≡ 0 → (store.new ≡ store.old) × (depot.new ≡ depot.old) }
     ensures spent { IfErr result (λ fault. SparesStore fault → ⊥) }
     ensures few { BeginsSegments 1 store.old store.new result }
     ensures present { IfOk result (λ turn. turn ≡ Turn.Present) }

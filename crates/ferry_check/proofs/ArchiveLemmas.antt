@@ -12,12 +12,12 @@ use Rattle.ferry_log.specs.State.{place_in}
 use Rattle.ferry_log.specs.declared.place.Place.{Place}
 use Rattle.ferry_manifest.specs.Record.Text.{ArchiveText}
 use Rattle.ferry_manifest.specs.declared.manifest.ArchiveRef.{ArchiveRef}
-use Rattle.ferry_repo.specs.Archives.{archive_named, HoldsRecord, RefusesNamed, HoldsContent, RefusesContent}
+use Rattle.ferry_repo.specs.Archives.{archive_named, HoldsRecord, RefusesNamed, HoldsContent, RefusesContent, ContentsCome, HoldsJoined, RefusesJoined}
 use Rattle.ferry_repo.specs.Fault.{IsOfFiles}
 use Rattle.ferry_repo.specs.Objects.{IsMissing}
 use Rattle.ferry_repo.specs.Opening.{RepoState}
 use Rattle.ferry_repo.specs.Walk.{begin_walk, IsToCome, Comes}
-use Rattle.ferry_repo.specs.Whole.{ContentsCome, HoldsJoined, RefusesJoined, WholeItem, WholesCome, Reading, ReadsArchive, each_item, RefusesWhole}
+use Rattle.ferry_repo.specs.Whole.{WholeItem, WholesCome, Reading, ReadsArchive, each_item, RefusesWhole}
 use Rattle.ferry_repo.specs.declared.fault.RepoFault.{RepoFault}
 use Rattle.ferry_repo.specs.declared.fault.RepoFault.TheVariants as Fault
 use Rattle.ferry_repo.proofs.ComesLemmas.{whole_comes}

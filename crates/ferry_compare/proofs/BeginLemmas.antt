@@ -118,7 +118,7 @@ pub begins_both : (told later : Option Told) (source after : RepoState) (other l
     → heard later ≡ heard told → after ≡ source → heard last ≡ heard other → renewed ≡ target
     → IfSome told (λ t. Opens (told_files t) source name side) → IfSome other (λ t. OpensBeside (told_files t) target name found)
     → KeepsSide after renewed name side.archive.fields found walk
-    → FitsTold later after last renewed (seen last renewed) (record { name = name; walk = side.walk; other = walk })
+    → FitsTold later after last renewed (seen last renewed) (record { name = name; walk = side.walk; other = walk; matched = [] })
 begins_both told later source after other last target renewed name side found walk there alike kept other_alike other_kept opens beside keeps =
     let named = named_of (archive_named name source.manifest.archives) there in
     let time = named.0.time in
@@ -133,6 +133,7 @@ begins_both told later source after other last target renewed name side found wa
       beside = stands_now last renewed name walk front (at_last other last target renewed (λ r f. StandsIn f r name walk front) other_alike other_kept
           (told_then other (λ f. OpensBeside f target name found) (λ f. StandsIn f target name walk front)
           (λ f o. begins_beside f target name source found walk time side.archive.fields o is both) beside));
+      matched = tt;
     }
 
 -- ---- names

@@ -8,10 +8,10 @@ use Rattle.ferry_disk.proofs.DeviceLemmas.{told_then, told_with, told_any}
 use Rattle.ferry_item.specs.Item.{ItemText}
 use Rattle.ferry_item.specs.Stream.{joined}
 use Rattle.ferry_item.specs.declared.item.ChunkRef.{ChunkRef}
-use Rattle.ferry_repo.specs.Archives.{HoldsContent, RefusesContent}
+use Rattle.ferry_repo.specs.Archives.{HoldsContent, RefusesContent, ContentsCome, HoldsJoined, RefusesJoined}
 use Rattle.ferry_repo.specs.Fault.{IsOfFiles}
 use Rattle.ferry_repo.specs.Opening.{RepoState}
-use Rattle.ferry_repo.specs.Whole.{ContentsCome, HoldsJoined, RefusesJoined, WholeItem, HoldsItem}
+use Rattle.ferry_repo.specs.Whole.{WholeItem, HoldsItem}
 use Rattle.ferry_repo.specs.declared.fault.RepoFault.{RepoFault}
 use Rattle.ferry_repo.proofs.ContentLemmas.{contents_then, one_contents}
 use Rattle.ferry_compare.specs.Fault.{source_fault}

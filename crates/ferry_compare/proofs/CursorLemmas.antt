@@ -5,9 +5,8 @@ use Rattle.std.proofs.lemmas.List.{append_assoc, append-nil, append_cancel_left,
 use Rattle.ferry_disk.specs.Files.{Files}
 use Rattle.ferry_item.specs.Stream.{joined}
 use Rattle.ferry_item.specs.declared.item.ChunkRef.{ChunkRef}
-use Rattle.ferry_repo.specs.Archives.{HoldsContent}
+use Rattle.ferry_repo.specs.Archives.{HoldsContent, ContentsCome, HoldsJoined}
 use Rattle.ferry_repo.specs.Opening.{RepoState}
-use Rattle.ferry_repo.specs.Whole.{ContentsCome, HoldsJoined}
 use Rattle.ferry_repo.proofs.ContentLemmas.{one_contents, contents_then}
 use Rattle.ferry_compare.specs.Steps.{CursorState, left_in, HasPassed, Strays, GivesContent}
 

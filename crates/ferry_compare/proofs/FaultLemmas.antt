@@ -4,7 +4,8 @@ use Rattle.ferry_disk.specs.Device.{Told, told_files}
 use Rattle.ferry_item.specs.declared.item.ChunkRef.{ChunkRef}
 use Rattle.ferry_repo.specs.Fault.{repo_failed, IsOfFiles}
 use Rattle.ferry_repo.specs.Opening.{RepoState}
-use Rattle.ferry_repo.specs.Whole.{RefusesJoined, RefusesWhole}
+use Rattle.ferry_repo.specs.Archives.{RefusesJoined}
+use Rattle.ferry_repo.specs.Whole.{RefusesWhole}
 use Rattle.ferry_repo.specs.declared.fault.RepoFault.{RepoFault}
 use Rattle.ferry_repo.specs.declared.fault.RepoFault.TheVariants as Fault
 use Rattle.ferry_compare.specs.declared.fault.CompareFault.{CompareFault}

@@ -8,11 +8,11 @@ use Rattle.ferry_log.specs.State.{LogState}
 use Rattle.ferry_mac.specs.declared.keys.Keys.{Keys}
 use Rattle.ferry_manifest.specs.Manifest.Text.{ManifestText}
 use Rattle.ferry_manifest.specs.Record.Text.{ArchiveText}
-use Rattle.ferry_repo.specs.Archives.{archive_named, HoldsRecord}
+use Rattle.ferry_repo.specs.Archives.{archive_named, HoldsRecord, ContentsCome, HoldsJoined}
 use Rattle.ferry_repo.specs.Objects.{KeepsBlobs}
 use Rattle.ferry_repo.specs.Opening.{RepoState}
 use Rattle.ferry_repo.specs.Walk.{HoldChunks, WalkState, FitsWalk}
-use Rattle.ferry_repo.specs.Whole.{ContentsCome, HoldsJoined, WholeItem, WholesCome, WholeArchive}
+use Rattle.ferry_repo.specs.Whole.{WholeItem, WholesCome, WholeArchive}
 use Rattle.ferry_repo.proofs.KeptLemmas.{chunk_kept}
 use Rattle.ferry_compare.specs.Compare.{ReadsSoFar, Seen, StandsBeside}
 
@@ -48,7 +48,7 @@ module _ (f g : Files) (a b : LogState) (keys : Keys) (keeps : KeepsBlobs f a g 
   contents_kept (c ∷ cs) (x ∷ xs) come =
       (record { holds = chunk_kept f g a b keys c.id x keeps come.0.holds; size = come.0.size }, contents_kept cs xs come.1)
 
-  joined_kept : (chunks : Option (List ChunkRef)) (content : Option (List ℕ)) → HoldsJoined f a keys chunks content → HoldsJoined g b keys chunks content
+  pub joined_kept : (chunks : Option (List ChunkRef)) (content : Option (List ℕ)) → HoldsJoined f a keys chunks content → HoldsJoined g b keys chunks content
   joined_kept None None holds = tt
   joined_kept None (Some c) holds = holds
   joined_kept (Some chunks) None holds = holds

@@ -8,3 +8,4 @@ pub mod CursorLemmas
 pub mod ContentLemmas
 pub mod PassLemmas
 pub mod KeptLemmas
+pub mod MatchedLemmas

@@ -7,9 +7,8 @@ use Rattle.std.proofs.lemmas.List.{append_assoc, append-nil, take-append-drop}
 use Rattle.ferry_disk.specs.Device.{Told, told_files, heard}
 use Rattle.ferry_disk.proofs.DeviceLemmas.{told_then, told_with}
 use Rattle.ferry_item.specs.declared.item.ChunkRef.{ChunkRef}
-use Rattle.ferry_repo.specs.Archives.{HoldsContent}
+use Rattle.ferry_repo.specs.Archives.{HoldsContent, HoldsJoined}
 use Rattle.ferry_repo.specs.Opening.{RepoState}
-use Rattle.ferry_repo.specs.Whole.{HoldsJoined}
 use Rattle.ferry_compare.specs.Steps.{CursorState, left_in, HasPassed, Strays, Passes, PassesOn, GivesContent, EndsContent, HoldsWhere}
 use Rattle.ferry_compare.proofs.CursorLemmas.{cursor_at, passed_piece, strays_more, strays_piece, strays_end, strays_refused}
 use Rattle.ferry_compare.proofs.CursorLemmas.{goes_on_piece, goes_on_chunk}

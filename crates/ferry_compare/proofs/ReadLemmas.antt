@@ -7,10 +7,10 @@ use Rattle.ferry_log.specs.State.{LogState, FitsFiles}
 use Rattle.ferry_mac.specs.declared.keys.Keys.{Keys}
 use Rattle.ferry_manifest.specs.Record.Text.{ArchiveText}
 use Rattle.ferry_manifest.specs.declared.manifest.ArchiveRef.{ArchiveRef}
-use Rattle.ferry_repo.specs.Archives.{archive_named, HoldsRecord}
+use Rattle.ferry_repo.specs.Archives.{archive_named, HoldsRecord, RefusesJoined}
 use Rattle.ferry_repo.specs.Opening.{RepoState}
 use Rattle.ferry_repo.specs.Walk.{Comes, WalkState, IsToCome}
-use Rattle.ferry_repo.specs.Whole.{RefusesJoined, WholeItem, HoldsItem, WholesCome, Reading, WholeArchive, RefusesWhole}
+use Rattle.ferry_repo.specs.Whole.{WholeItem, HoldsItem, WholesCome, Reading, WholeArchive, RefusesWhole}
 use Rattle.ferry_repo.specs.declared.fault.RepoFault.{RepoFault}
 use Rattle.ferry_repo.proofs.ComesLemmas.{whole_comes}
 use Rattle.ferry_repo.proofs.ContentLemmas.{one_record, one_joined}

@@ -1,6 +1,6 @@
 -- Lemmas on specs/Compare.antt and specs/Steps.antt: a step of a comparison, over what the shelves of both repositories tell.
 use Rattle.std.proofs.Common.{◌≡◌, ℕ, Bool, true, false, List, [], ◌∷◌, Option, Some, None, Result, Ok, Err, OnOk, IfOk, IfSome, option_map, refl, sym, subst}
-use Rattle.ferry_disk.specs.Device.{Told, told_files, heard}
+use Rattle.ferry_disk.specs.Device.{KeepsTold, Told, told_files, heard}
 use Rattle.ferry_disk.specs.Files.{Files}
 use Rattle.ferry_disk.proofs.DeviceLemmas.{told_same, told_then, told_with}
 use Rattle.ferry_item.specs.Item.{ItemText, item_view}
@@ -11,10 +11,12 @@ use Rattle.ferry_repo.specs.Cached.{Contents}
 use Rattle.ferry_repo.specs.Fault.{IsOfFiles}
 use Rattle.ferry_repo.specs.Opening.{RepoState, FitsRepo}
 use Rattle.ferry_repo.specs.Walk.{WalkState, IsToCome, LeadsOn, FitsWalk}
-use Rattle.ferry_repo.specs.Whole.{HoldsJoined, RefusesJoined, WholeItem, HoldsItem, WholeArchive, RefusesWhole}
+use Rattle.ferry_repo.specs.Archives.{HoldsJoined, RefusesJoined}
+use Rattle.ferry_repo.specs.Whole.{WholeItem, HoldsItem, WholeArchive, RefusesWhole}
 use Rattle.ferry_repo.specs.declared.fault.RepoFault.{RepoFault}
 use Rattle.ferry_compare.specs.Compare.{Says, Apart, ReadsSoFar, Seen, seen, StandsBeside, met_behind, ComparisonState, FitsTold, AreEqual, Differ}
 use Rattle.ferry_compare.specs.Fault.{source_fault}
+use Rattle.ferry_compare.specs.Matched.{AreMatched, Matched}
 use Rattle.ferry_compare.specs.Steps.{Goes, GoesOn, FindsAt, FindsBeside, WalksBeside, MovesBeside, EndsBeside, TakesItem, ComparesItems, HoldsSome, HoldsWhere}
 use Rattle.ferry_compare.specs.Steps.{RefusesSource, RefusesItem, kept_where}
 use Rattle.ferry_compare.specs.declared.fault.CompareFault.{CompareFault}
@@ -33,6 +35,12 @@ on_ok (Err e) P Q f p = tt
 pub if_ok : {A E : Type 0} (r : Result A E) (P Q : A → Type 0) → ((v : A) → P v → Q v) → IfOk r P → IfOk r Q
 if_ok (Ok v) P Q f p = f v p
 if_ok (Err e) P Q f p = tt
+
+-- what a shelf tells behind an answer is what it told
+pub keeps_ok : {A E : Type 0} (is_device : E → Bool) (before now : Option Told) (r : Result A E) → KeepsTold is_device before now r
+    → OnOk r (heard now ≡ heard before)
+keeps_ok is_device before now (Ok v) same = same
+keeps_ok is_device before now (Err e) same = tt
 
 pub some_holds : {A : Type 0} (o : Option A) (x : A) (P : A → Type 0) → o ≡ Some x → IfSome o P → P x
 some_holds None x P e p = absurd (let no : ⊥ = cc in no)
@@ -58,6 +66,22 @@ pub at_last : (told later : Option Told) (repo after : RepoState) (P : RepoState
     → IfSome told (λ t. P repo (told_files t)) → IfSome later (λ t. P after (told_files t))
 at_last told later repo after P same kept p =
     subst (λ (r : RepoState). IfSome later (λ t. P r (told_files t))) (sym kept) (told_same told later (λ f. P repo f) same p)
+
+-- ---- contents that were found to be the same
+
+-- what holds at one time holds at another, of the same files and the same repositories
+module _ (told later : Option Told) (source after : RepoState) (other last : Option Told) (target renewed : RepoState) (same : heard later ≡ heard told)
+    (kept : after ≡ source) (other_same : heard last ≡ heard other) (other_kept : renewed ≡ target) where
+  pub matched_later : (matched : Matched) → AreMatched told source other target matched → AreMatched later after last renewed matched
+  matched_later [] all = tt
+  matched_later (m ∷ matched) all = (
+    record {
+      content = all.0.content;
+      first = at_last told later source after (λ r f. HoldsJoined f r.log r.keys (Some m.1.chunks) (Some all.0.content)) same kept all.0.first;
+      second = at_last other last target renewed (λ r f. HoldsJoined f r.log r.keys (Some m.1.others) (Some all.0.content)) other_same other_kept all.0.second;
+    },
+    matched_later matched all.1,
+  )
 
 -- ---- the source
 
@@ -140,16 +164,19 @@ target_moves told repo met name (Some from) now front item fits none stands move
 -- ---- one item more of both
 
 module _ (told : Option Told) (source : RepoState) (heard_of : Option Told) (target : RepoState) (met : Seen) (name : List ℕ) (from now : WalkState)
-    (walk after : Option WalkState) (front : WholeArchive) (item : ItemText) where
+    (walk after : Option WalkState) (front : WholeArchive) (item : ItemText) (matched : Matched) where
   pub both_go : IfSome told (λ t. FitsFiles (told_files t) source.log) → IfSome heard_of (λ t. FitsFiles (told_files t) target.log)
       → IfSome told (λ t. ReadsSoFar (told_files t) source name from front)
       → StandsBeside heard_of target met name walk front → (walk ≡ None → after ≡ None)
       → IfSome told (λ t. Goes (told_files t) source from item now) → TakesItem told source heard_of target item walk after
-      → FitsTold told source heard_of target (met_behind walk met (seen heard_of target)) (record { name = name; walk = now; other = after })
-  both_go fits other_fits reads stands none goes takes = record {
+      → AreMatched told source heard_of target matched
+      → FitsTold told source heard_of target (met_behind walk met (seen heard_of target))
+      (record { name = name; walk = now; other = after; matched = matched })
+  both_go fits other_fits reads stands none goes takes are_matched = record {
     front = with_item front takes.whole;
     read = source_goes told source name from now front item takes.whole fits reads goes takes.holds;
     beside = target_moves heard_of target met name walk after front takes.whole other_fits none stands takes.moves;
+    matched = are_matched;
   }
 
 stands_later : (told later : Option Told) (repo after : RepoState) (met : Seen) (name : List ℕ) (from walk : Option WalkState) (front : WholeArchive)
@@ -169,6 +196,7 @@ fits_later told later source after other last target renewed met from state same
   front = fits.front;
   read = at_last told later source after (λ r f. ReadsSoFar f r state.name state.walk fits.front) same kept fits.read;
   beside = stands_later other last target renewed met state.name from state.other fits.front same_other kept_other fits.beside;
+  matched = matched_later told later source after other last target renewed same kept same_other kept_other state.matched fits.matched;
 }
 
 pub takes_first : (told later : Option Told) (source after : RepoState) (other : Option Told) (target : RepoState) (item : ItemText)

@@ -8,6 +8,7 @@ use Rattle.ferry_repo.specs.Archives.{archive_named, HoldsRecord}
 use Rattle.ferry_repo.specs.Opening.{RepoState}
 use Rattle.ferry_repo.specs.Walk.{WalkState, walk_view, FitsWalk}
 use Rattle.ferry_repo.specs.Whole.{WholeItem, WholesCome, WholeArchive, IsWhole}
+use Rattle.ferry_compare.specs.Matched.{AreMatched, Matched}
 use Rattle.ferry_compare.specs.declared.comparison.Comparison.{Comparison}
 
 -- ---- archives
@@ -63,22 +64,24 @@ met_behind (Some walk) met now = now
 
 -- ---- comparisons
 
--- the name of both archives, where the source's walk stands, and where the target's does, if no difference was met
+-- the name of both archives, where the source's walk stands, where the target's does, if no difference was met, and which contents were found to be the same
 pub record ComparisonState : Type 0 where
   pub name : List ℕ
   pub walk : WalkState
   pub other : Option WalkState
+  pub matched : Matched
 
 -- what a `Comparison` says, apart from where its parts lie in memory
 abbrev pub comparison_view : Comparison → ComparisonState
-comparison_view c = record { name = c.name.items; walk = walk_view c.walk; other = option_map walk_view c.other }
+comparison_view c = record { name = c.name.items; walk = walk_view c.walk; other = option_map walk_view c.other; matched = c.matches }
 
 -- A comparison fits what the shelves of both repositories tell: the same was read of both archives so far, or a difference is certain in the target in which
--- it was met. Of a shelf that tells nothing it says nothing.
+-- it was met; and the contents that were found to be the same are. Of a shelf that tells nothing it says nothing.
 pub record FitsTold (told : Option Told) (source : RepoState) (heard : Option Told) (target : RepoState) (met : Seen) (state : ComparisonState) : Type 0 where
   pub front : WholeArchive
   pub read : IfSome told (λ t. ReadsSoFar (told_files t) source state.name state.walk front)
   pub beside : StandsBeside heard target met state.name state.other front
+  pub matched : AreMatched told source heard target state.matched
 
 -- ---- what is answered
 

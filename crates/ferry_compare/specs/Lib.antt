@@ -1,4 +1,5 @@
 pub mod Compare
 pub mod Fault
+pub mod Matched
 pub mod Same
 pub mod Steps

@@ -8,11 +8,11 @@ use Rattle.ferry_item.specs.declared.item.ChunkRef.{ChunkRef}
 use Rattle.ferry_manifest.specs.Record.Text.{ArchiveText, archive_view}
 use Rattle.ferry_manifest.specs.declared.manifest.ArchiveRef.{ArchiveRef}
 use Rattle.ferry_msgpack.specs.Tree.{Tree}
-use Rattle.ferry_repo.specs.Archives.{archive_named, HoldsRecord, RefusesRecord, HoldsContent}
+use Rattle.ferry_repo.specs.Archives.{archive_named, HoldsRecord, RefusesRecord, HoldsContent, ContentsCome, HoldsJoined, RefusesJoined}
 use Rattle.ferry_repo.specs.Fault.{IsOfFiles}
 use Rattle.ferry_repo.specs.Opening.{RepoState}
 use Rattle.ferry_repo.specs.Walk.{WalkState, walk_view, begin_walk, IsToCome, LeadsOn, FitsWalk}
-use Rattle.ferry_repo.specs.Whole.{ContentsCome, HoldsJoined, RefusesJoined, WholeItem, HoldsItem, WholeArchive, RefusesWhole}
+use Rattle.ferry_repo.specs.Whole.{WholeItem, HoldsItem, WholeArchive, RefusesWhole}
 use Rattle.ferry_repo.specs.declared.fault.RepoFault.{RepoFault}
 use Rattle.ferry_compare.specs.Compare.{Says}
 use Rattle.ferry_compare.specs.declared.beginning.Side.{Side}

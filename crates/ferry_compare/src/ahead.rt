@@ -7,7 +7,7 @@ ghost use Rattle.ferry_repo.specs.Opening.{repo_view, cached_in, FitsRepo};
 ghost use Rattle.ferry_repo.specs.Walk.{walk_view, IsToCome, LeadsOn, FitsWalk};
 
 use ferry_disk::Shelf;
-use ferry_item::Item;
+use ferry_item::{ChunkRef, Item};
 use ferry_repo::{Repo, RepoFault, Walk};
 
 /// Answers the next item as `Walk::step` does. Its contents, and those of the items that follow, are read ahead, which changes the time alone.
@@ -55,9 +55,29 @@ fn read_contents<S: Shelf>(
 {
     match found {
         Some(item) => match &item.chunks {
-            Some(chunks) => walk.read_ahead(repo, shelf, chunks.as_slice()),
+            Some(chunks) => read_chunks(walk, repo, shelf, chunks.as_slice()),
             None => Ok(()),
         },
         None => Ok(()),
     }
+}
+
+/// Reads these, where they aren't passed over, and those of the items that follow.
+fn read_chunks<S: Shelf>(
+    walk: &Walk,
+    repo: &mut Repo,
+    shelf: &mut S,
+    chunks: &[ChunkRef],
+) -> Result<(), RepoFault>
+    requires fits { IfSome (S.told shelf.old) (λ t. FitsRepo (told_files t) (repo_view repo.old) (cached_in repo.old)) }
+    ensures refused { IfErr result (λ fault. IsOfFiles fault → ⊥) }
+    ensures fits { IfSome (S.told shelf.new) (λ t. FitsRepo (told_files t) (repo_view repo.new) (cached_in repo.new)) }
+    ensures kept { repo_view repo.new ≡ repo_view repo.old }
+    ensures same { KeepsTold repo_failed (S.told shelf.old) (S.told shelf.new) result }
+    ensures cause { HasCause repo_failed (S.faults shelf.old) (S.faults shelf.new) result }
+{
+    if repo.passes_over(chunks) {
+        return Ok(());
+    }
+    walk.read_ahead(repo, shelf, chunks)
 }

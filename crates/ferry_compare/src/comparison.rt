@@ -1,5 +1,5 @@
 //! The comparison of two archives of one name.
-ghost use Rattle.std.specs.Prelude.{◌≡◌, Ok, None, false, option_map, OnOk, IfOk, IfErr, IfSome, IsSome};
+ghost use Rattle.std.specs.Prelude.{◌≡◌, [], Ok, None, false, option_map, OnOk, IfOk, IfErr, IfSome, IsSome};
 ghost use Rattle.ferry_disk.specs.Device.{KeepsTold, HasCause, told_files};
 ghost use Rattle.ferry_item.specs.Item.{item_view};
 ghost use Rattle.ferry_repo.specs.Archives.{archive_named};
@@ -7,6 +7,7 @@ ghost use Rattle.ferry_repo.specs.Opening.{repo_view, cached_in, FitsRepo};
 ghost use Rattle.ferry_repo.specs.Walk.{walk_view};
 ghost use Rattle.ferry_compare.specs.Compare.{comparison_view, Seen, seen, met_behind, FitsTold, AreEqual, Differ};
 ghost use Rattle.ferry_compare.specs.Fault.{source_failed, target_failed, IsTargetFault, RefusesTarget};
+ghost use Rattle.ferry_compare.specs.Matched.{AreMatched};
 ghost use Rattle.ferry_compare.specs.Steps.{EndsBeside, GoesOn, RefusesSource, RefusesItem, TakesItem, WalksBeside, kept_where};
 
 use crate::ahead::step_ahead;
@@ -14,6 +15,7 @@ use crate::beginning::{keep_side, open_side, open_target, walk_of};
 use crate::contents::{read_content, same_item};
 use crate::fault::CompareFault;
 use crate::items::{ends_beside, next_beside};
+use crate::matches::Matches;
 use ferry_disk::Shelf;
 use ferry_item::Item;
 use ferry_repo::{Repo, Walk};
@@ -27,6 +29,7 @@ pub struct Comparison {
     name: Vec<u8>,
     walk: Walk,
     other: Option<Walk>,
+    matches: Matches,
 }
 
 /// What a step of a comparison answers.
@@ -62,6 +65,7 @@ impl Comparison {
         ensures fits { IfOk result (λ comparison. FitsTold (S.told shelf.new) (repo_view source.new) (T.told other.new) (repo_view target.new)
             (seen (T.told other.new) (repo_view target.new)) (comparison_view comparison)) }
         ensures name { IfOk result (λ comparison. (comparison_view comparison).name ≡ name.now) }
+        ensures new { IfOk result (λ comparison. (comparison_view comparison).matched ≡ []) }
         ensures refused_source { IfErr result (RefusesSource (S.told shelf.old) (repo_view source.old) name.now) }
         ensures refused_target { IfErr result RefusesTarget }
         ensures source_fits { IfSome (S.told shelf.new) (λ t. FitsRepo (told_files t) (repo_view source.new) (cached_in source.new)) }
@@ -83,6 +87,7 @@ impl Comparison {
                     name: owned,
                     walk: walk_of(first),
                     other: beside,
+                    matches: Matches::new(alloc),
                 })
             }
             Err(fault) => {
@@ -92,11 +97,25 @@ impl Comparison {
         }
     }
 
+    /// Goes on with the contents that earlier comparisons of the same repositories found to be the same.
+    pub fn resume(&mut self, matches: Matches)
+        ensures resumed { comparison_view self.new ≡ record (comparison_view self.old) { matched = matches } }
+    {
+        self.matches = matches;
+    }
+
+    /// The contents that were found to be the same, for a comparison of other archives of the same repositories.
+    pub fn into_matches(self) -> Matches
+        ensures matched { result ≡ (comparison_view self).matched }
+    {
+        self.matches
+    }
+
     /// Takes one more item of the source with its content, and compares that of the target beside it; or meets the end of the source's archive.
     ///
     /// Once a difference was met, the target is read no more, and the source on to its end, so that a fault of the source comes before a
     /// difference. Contents are compared piece by piece: at most one chunk of either side is in memory besides those that the repositories
-    /// keep. Both read contents ahead.
+    /// keep. Both read contents ahead. A content that was found to be the same isn't read again.
     ///
     /// Source: BorgBackup 1.2, Internals, "Data structures and file formats", Archives.
     #[tactic(auto, using(crate::proofs::FaultLemmas::conversions))]
@@ -118,6 +137,8 @@ impl Comparison {
         ensures more { result ≡ Ok Compared.More → IfSome (S.told shelf.old) (λ t.
             GoesOn (told_files t) (repo_view source.old) (comparison_view self.old).walk (comparison_view self.new).walk) }
         ensures name { (comparison_view self.new).name ≡ (comparison_view self.old).name }
+        ensures matched { OnOk result (AreMatched (S.told shelf.new) (repo_view source.new) (T.told other.new) (repo_view target.new)
+            (comparison_view self.new).matched) }
         // Once a difference was met, the target is read no more.
         ensures unread { (comparison_view self.old).other ≡ None → (other.new ≡ other.old) × ((comparison_view self.new).other ≡ None) }
         ensures equal { result ≡ Ok Compared.Equal → AreEqual (S.told shelf.old) (repo_view source.old) (T.told other.old) (repo_view target.old)
@@ -147,6 +168,7 @@ impl Comparison {
                     other,
                     &item,
                     &mut self.other,
+                    &mut self.matches,
                 )?;
                 Ok(Compared::More)
             }
@@ -166,12 +188,15 @@ fn take<S: Shelf, T: Shelf>(
     other: &mut T,
     item: &Item,
     walk: &mut Option<Walk>,
+    matches: &mut Matches,
 ) -> Result<(), CompareFault>
     requires source_fits { IfSome (S.told shelf.old) (λ t. FitsRepo (told_files t) (repo_view source.old) (cached_in source.old)) }
     requires target_fits { IfSome (T.told other.old) (λ t. FitsRepo (told_files t) (repo_view target.old) (cached_in target.old)) }
     requires walk_fits { IfSome (T.told other.old) (λ t. WalksBeside (told_files t) (repo_view target.old) (option_map walk_view walk.old)) }
+    requires matched { AreMatched (S.told shelf.old) (repo_view source.old) (T.told other.old) (repo_view target.old) matches.old }
     ensures takes { OnOk result (TakesItem (S.told shelf.old) (repo_view source.old) (T.told other.old) (repo_view target.old)
         (item_view item.now) (option_map walk_view walk.old) (option_map walk_view walk.new)) }
+    ensures matched { OnOk result (AreMatched (S.told shelf.new) (repo_view source.new) (T.told other.new) (repo_view target.new) matches.new) }
     ensures unread { option_map walk_view walk.old ≡ None → (other.new ≡ other.old) × (option_map walk_view walk.new ≡ None) }
     ensures refused { IfErr result (RefusesItem (S.told shelf.old) (repo_view source.old) (item_view item.now).chunks) }
     ensures refused_target { IfErr result RefusesTarget }
@@ -186,7 +211,7 @@ fn take<S: Shelf, T: Shelf>(
 {
     match next_beside(walk, target, other)? {
         Some(beside) => {
-            let compared = same_item(alloc, source, shelf, target, other, item, &beside);
+            let compared = same_item(alloc, source, shelf, target, other, item, &beside, matches);
             drop(beside);
             keep_where(compared?, walk);
             Ok(())

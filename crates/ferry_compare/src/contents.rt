@@ -3,12 +3,14 @@ ghost use Rattle.std.specs.Prelude.{◌≡◌, ◌++◌, ℕ, List, Some, false,
 ghost use Rattle.ferry_disk.specs.Device.{KeepsTold, HasCause, told_files};
 ghost use Rattle.ferry_item.specs.Item.{item_view};
 ghost use Rattle.ferry_repo.specs.Opening.{repo_view, cached_in, FitsRepo};
-ghost use Rattle.ferry_repo.specs.Whole.{HoldsJoined};
+ghost use Rattle.ferry_repo.specs.Archives.{HoldsJoined};
 ghost use Rattle.ferry_compare.specs.Fault.{source_failed, target_failed, IsTargetFault, RefusesTarget};
+ghost use Rattle.ferry_compare.specs.Matched.{AreMatched};
 ghost use Rattle.ferry_compare.specs.Steps.{ComparesItems, ComparesContents, HoldsBytes, HoldsSome, HoldsWhere, IsWithin, Passes, RefusesItem, cursor_view};
 
 use crate::cursor::Cursor;
 use crate::fault::CompareFault;
+use crate::matches::Matches;
 use crate::same::same_value;
 use ferry_disk::Shelf;
 use ferry_item::{ChunkRef, ChunkRefs, Item};
@@ -25,11 +27,14 @@ pub(crate) fn same_item<S: Shelf, T: Shelf>(
     other: &mut T,
     item: &Item,
     beside: &Item,
+    matches: &mut Matches,
 ) -> Result<bool, CompareFault>
     requires source_fits { IfSome (S.told shelf.old) (λ t. FitsRepo (told_files t) (repo_view source.old) (cached_in source.old)) }
     requires target_fits { IfSome (T.told other.old) (λ t. FitsRepo (told_files t) (repo_view target.old) (cached_in target.old)) }
+    requires matched { AreMatched (S.told shelf.old) (repo_view source.old) (T.told other.old) (repo_view target.old) matches.old }
     ensures compares { IfOk result (λ same. ComparesItems (S.told shelf.old) (repo_view source.old) (T.told other.old) (repo_view target.old)
         (item_view item.now) (item_view beside.now) same) }
+    ensures matched { OnOk result (AreMatched (S.told shelf.new) (repo_view source.new) (T.told other.new) (repo_view target.new) matches.new) }
     ensures refused { IfErr result (RefusesItem (S.told shelf.old) (repo_view source.old) (item_view item.now).chunks) }
     ensures refused_target { IfErr result RefusesTarget }
     ensures source_fits { IfSome (S.told shelf.new) (λ t. FitsRepo (told_files t) (repo_view source.new) (cached_in source.new)) }
@@ -50,6 +55,7 @@ pub(crate) fn same_item<S: Shelf, T: Shelf>(
             other,
             &item.chunks,
             &beside.chunks,
+            matches,
         );
     }
     read_content(source, shelf, &item.chunks)?;
@@ -66,11 +72,14 @@ fn same_content<S: Shelf, T: Shelf>(
     other: &mut T,
     chunks: &Option<ChunkRefs>,
     others: &Option<ChunkRefs>,
+    matches: &mut Matches,
 ) -> Result<bool, CompareFault>
     requires source_fits { IfSome (S.told shelf.old) (λ t. FitsRepo (told_files t) (repo_view source.old) (cached_in source.old)) }
     requires target_fits { IfSome (T.told other.old) (λ t. FitsRepo (told_files t) (repo_view target.old) (cached_in target.old)) }
+    requires matched { AreMatched (S.told shelf.old) (repo_view source.old) (T.told other.old) (repo_view target.old) matches.old }
     ensures compares { IfOk result (λ same. ComparesContents (S.told shelf.old) (repo_view source.old) (T.told other.old) (repo_view target.old)
         chunks.now others.now same) }
+    ensures matched { OnOk result (AreMatched (S.told shelf.new) (repo_view source.new) (T.told other.new) (repo_view target.new) matches.new) }
     ensures refused { IfErr result (RefusesItem (S.told shelf.old) (repo_view source.old) chunks.now) }
     ensures refused_target { IfErr result RefusesTarget }
     ensures source_fits { IfSome (S.told shelf.new) (λ t. FitsRepo (told_files t) (repo_view source.new) (cached_in source.new)) }
@@ -84,7 +93,7 @@ fn same_content<S: Shelf, T: Shelf>(
 {
     match chunks {
         Some(refs) => match others {
-            Some(beside) => same_chunks(
+            Some(beside) => match_chunks(
                 alloc,
                 source,
                 shelf,
@@ -92,6 +101,7 @@ fn same_content<S: Shelf, T: Shelf>(
                 other,
                 refs.as_slice(),
                 beside.as_slice(),
+                matches,
             ),
             None => {
                 read_chunks(source, shelf, refs.as_slice())?;
@@ -100,6 +110,48 @@ fn same_content<S: Shelf, T: Shelf>(
         },
         None => Ok(others.is_none()),
     }
+}
+
+/// Whether the contents of the chunks of two items, joined, are the same. Those that were found to be aren't read again, and are passed over where
+/// contents are read ahead.
+#[tactic(auto, using(crate::proofs::FaultLemmas::conversions))]
+fn match_chunks<S: Shelf, T: Shelf>(
+    alloc: Global,
+    source: &mut Repo,
+    shelf: &mut S,
+    target: &mut Repo,
+    other: &mut T,
+    chunks: &[ChunkRef],
+    others: &[ChunkRef],
+    matches: &mut Matches,
+) -> Result<bool, CompareFault>
+    requires source_fits { IfSome (S.told shelf.old) (λ t. FitsRepo (told_files t) (repo_view source.old) (cached_in source.old)) }
+    requires target_fits { IfSome (T.told other.old) (λ t. FitsRepo (told_files t) (repo_view target.old) (cached_in target.old)) }
+    requires matched { AreMatched (S.told shelf.old) (repo_view source.old) (T.told other.old) (repo_view target.old) matches.old }
+    ensures compares { IfOk result (λ same. ComparesContents (S.told shelf.old) (repo_view source.old) (T.told other.old) (repo_view target.old)
+        (Some chunks.now) (Some others.now) same) }
+    ensures matched { OnOk result (AreMatched (S.told shelf.new) (repo_view source.new) (T.told other.new) (repo_view target.new) matches.new) }
+    ensures refused { IfErr result (RefusesItem (S.told shelf.old) (repo_view source.old) (Some chunks.now)) }
+    ensures refused_target { IfErr result RefusesTarget }
+    ensures source_fits { IfSome (S.told shelf.new) (λ t. FitsRepo (told_files t) (repo_view source.new) (cached_in source.new)) }
+    ensures target_fits { IfSome (T.told other.new) (λ t. FitsRepo (told_files t) (repo_view target.new) (cached_in target.new)) }
+    ensures kept { repo_view source.new ≡ repo_view source.old }
+    ensures target_kept { repo_view target.new ≡ repo_view target.old }
+    ensures same { KeepsTold source_failed (S.told shelf.old) (S.told shelf.new) result }
+    ensures target_same { KeepsTold target_failed (T.told other.old) (T.told other.new) result }
+    ensures cause { HasCause source_failed (S.faults shelf.old) (S.faults shelf.new) result }
+    ensures target_cause { HasCause target_failed (T.faults other.old) (T.faults other.new) result }
+{
+    if matches.has(chunks, others) {
+        return Ok(true);
+    }
+    let same = same_chunks(alloc, source, shelf, target, other, chunks, others)?;
+    if same {
+        source.pass_over(chunks);
+        target.pass_over(others);
+        matches.add(chunks, others);
+    }
+    Ok(same)
 }
 
 /// Whether the contents of the chunks of two items, joined, are the same. Those of the source are read to their end; of either at most one

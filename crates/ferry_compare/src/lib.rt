@@ -14,8 +14,10 @@ mod cursor;
 mod fault;
 mod items;
 mod laws;
+mod matches;
 mod same;
 
 pub use comparison::{Compared, Comparison};
 pub use fault::CompareFault;
 pub use laws::kept_laws;
+pub use matches::Matches;

@@ -4,3 +4,4 @@ pub mod OtherLemmas
 pub mod PutLemmas
 pub mod SizeLemmas
 pub mod KeptLemmas
+pub mod ApartLemmas

@@ -19,4 +19,4 @@ pub use fault::MapFault;
 pub use fields::{has_version_1, map_in, number_in, raw_in, raw32_in, raw64_in, value_of};
 pub use laws::fields_laws;
 pub use others::without;
-pub use reading::map_of;
+pub use reading::{map_apart_of, map_of};

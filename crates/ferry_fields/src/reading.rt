@@ -1,13 +1,14 @@
 //! From bytes to the pairs of a map.
 
-ghost use Rattle.std.specs.Prelude.{◌≡◌, ◌≢◌, IfOk, IfErr, Some, None};
+ghost use Rattle.std.specs.Prelude.{◌≡◌, ◌≢◌, IfOk, IfErr, Some, None, option_map};
+ghost use Rattle.ferry_msgpack.specs.Apart.{apart_view, parted};
 ghost use Rattle.ferry_msgpack.specs.Tree.{table};
 ghost use Rattle.ferry_msgpack.specs.View.{value_view, pairs_view};
 ghost use Rattle.ferry_msgpack.specs.Writable.{IsWritable};
 ghost use Rattle.ferry_fields.specs.Fields.{map_of, pairs_in};
 
 use crate::fault::MapFault;
-use ferry_msgpack::{Value, read};
+use ferry_msgpack::{Apart, Value, read, read_map_apart};
 use std::alloc::Global;
 
 /// The pairs of the map that the bytes spell, with nothing behind it, in byte order of their names.
@@ -23,6 +24,26 @@ pub fn map_of(alloc: Global, bytes: &[u8]) -> Result<Vec<(Vec<u8>, Value)>, MapF
 {
     let value = only_value(alloc, bytes)?;
     pairs_of(value)
+}
+
+/// The map that the bytes spell, with nothing behind it, and with the value of `name` apart.
+///
+/// Of an array under the name no values are made, only a list of the contents of its raws, where each has 32 bytes. `Memory`
+/// may come from any bytes, at any point.
+///
+/// Source: msgpack specification, "Formats".
+pub fn map_apart_of(alloc: Global, bytes: &[u8], name: &[u8]) -> Result<Apart, MapFault>
+    ensures map { IfOk result (λ apart. option_map (parted name.now) (map_of bytes.now) ≡ Some (apart_view apart)) }
+    ensures fault { IfErr result (λ fault. fault ≢ MapFault.Memory → map_of bytes.now ≡ None) }
+{
+    let (apart, rest) = read_map_apart(alloc, bytes, name)?;
+    if !rest.is_empty() {
+        return Err(MapFault::Pack);
+    }
+    match apart {
+        Some(apart) => Ok(apart),
+        None => Err(MapFault::Pack),
+    }
 }
 
 /// The value that the bytes spell, with nothing behind it.

@@ -1,6 +1,7 @@
 //! Vectors of the standards.
 
 use ferry_aes::{Schedule, keystream};
+use std::alloc::Global;
 
 /// The key of FIPS 197, appendix A.3, and of SP 800-38A, appendices F.1.5 and F.5.5.
 static KEY: [u8; 32] = [
@@ -40,13 +41,21 @@ static OUTPUT_BLOCKS: [u8; 64] = [
     0x29, 0x56, 0xe1, 0xc8, 0x69, 0x35, 0x36, 0xb1, 0xbe, 0xe9, 0x9c, 0x73, 0xa3, 0x15, 0x76, 0xb6,
 ];
 
-/// Whether this is the block of a text, alone and as the last of sixteen.
+/// Sixteen times a text.
+fn sixteen_of(text: &[u8; 16]) -> [u8; 256] {
+    let mut texts = [0u8; 256];
+    for place in 0..16usize {
+        texts[16 * place..16 * place + 16].copy_from_slice(text);
+    }
+    texts
+}
+
+/// Whether this is the block of a text, alone and as each of sixteen.
 fn is_block(key: &[u8; 32], text: &[u8; 16], block: &[u8; 16]) -> bool {
     let schedule = Schedule::new(key);
-    let mut texts = [0u8; 256];
-    texts[240..].copy_from_slice(text);
+    let mut texts = sixteen_of(text);
     schedule.sixteen(&mut texts);
-    schedule.block(text) == *block && texts.ends_with(block)
+    schedule.block(text) == *block && texts == sixteen_of(block)
 }
 
 /// Whether the stream from a counter on is that of SP 800-38A, appendix F.5.5.
@@ -60,29 +69,46 @@ fn is_stream(schedule: &Schedule) -> bool {
     stream == OUTPUT_BLOCKS
 }
 
-/// Whether the block behind counter 2^64 - 1 is that of 2^64, and is cut.
-fn passes_64_bits(schedule: &Schedule) -> bool {
-    let mut cut = [0u8; 31];
-    keystream(schedule, u128::from(u64::MAX), &mut cut);
-    let next = schedule.block(&[0, 0, 0, 0, 0, 0, 0, 1, 0, 0, 0, 0, 0, 0, 0, 0]);
-    next.starts_with(&cut[16..])
+/// How many bytes streams have: fewer than a block, some blocks, and more than go sixteen blocks at a time.
+static LENGTHS: &[usize] = &[0, 1, 15, 16, 255, 256, 257, 513, 1_025, 2_090];
+
+/// Whether a stream of so many bytes is the blocks of the counters from this one on, joined and cut; 0 comes behind 2^128 - 1.
+fn is_joined(alloc: Global, schedule: &Schedule, counter: u128, length: usize) -> bool {
+    let mut stream = Vec::new(alloc);
+    if stream.resize(length, 0).is_err() {
+        return false;
+    }
+    keystream(schedule, counter, &mut stream);
+    let mut at = counter;
+    for piece in stream.chunks(16) {
+        if !schedule.block(&at.to_be_bytes()).starts_with(piece) {
+            return false;
+        }
+        at = at.wrapping_add(1);
+    }
+    true
 }
 
-/// Whether 0 comes behind counter 2^128 - 1: here in the second eight blocks, which are cut.
-fn begins_again(schedule: &Schedule) -> bool {
-    let mut wrapped = [0u8; 150];
-    keystream(schedule, u128::MAX - 8, &mut wrapped);
-    schedule.block(&[0; 16]).starts_with(&wrapped[144..])
+/// Whether streams of each length are joined so, behind counter 2^64 - 1 and behind 2^128 - 1.
+fn are_joined(alloc: Global, schedule: &Schedule) -> bool {
+    for length in LENGTHS {
+        if !is_joined(alloc, schedule, u128::from(u64::MAX), *length)
+            || !is_joined(alloc, schedule, u128::MAX, *length)
+        {
+            return false;
+        }
+    }
+    true
 }
 
 /// Whether the streams are.
-fn are_streams() -> bool {
+fn are_streams(alloc: Global) -> bool {
     let schedule = Schedule::new(&KEY);
-    is_stream(&schedule) && passes_64_bits(&schedule) && begins_again(&schedule)
+    is_stream(&schedule) && are_joined(alloc, &schedule)
 }
 
 #[test]
 fn blocks_and_stream_of_fips_197_and_sp_800_38a(rt: HostRuntime) {
     assert!(rt; is_block(&COUNTED_KEY, &TEXT, &BLOCK) && is_block(&KEY, &FIRST_TEXT, &FIRST_BLOCK));
-    assert!(rt; are_streams());
+    assert!(rt; are_streams(rt.alloc()));
 }

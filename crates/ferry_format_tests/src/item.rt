@@ -1,7 +1,7 @@
 //! Streams by hand from the msgpack specification, "Formats", and streams that others packed.
 
 use crate::bytes::joined;
-use ferry_item::{ChunkRef, ItemFault, ItemReader, item_laws, write_item};
+use ferry_item::{ChunkRefs, ItemFault, ItemReader, item_laws, write_item};
 use std::alloc::{AllocError, Global};
 use std::process::Abort;
 
@@ -266,40 +266,47 @@ fn a_stream_that_ends_inside_an_item_has_a_rest(rt: HostRuntime) {
     assert!(rt; ended(rt.alloc(), b"\x81\xa4p") == Err(ItemFault::Rest));
 }
 
-/// Whether chunks have these sizes.
-fn have_sizes(chunks: &[ChunkRef], sizes: &[u64]) -> bool {
-    if chunks.len() != sizes.len() {
+/// Adds the sizes of an item's chunks.
+fn add_sizes(chunks: &Option<ChunkRefs>, sizes: &mut Vec<u64>) -> Result<(), AllocError> {
+    let Some(chunks) = chunks else {
+        return Ok(());
+    };
+    for chunk in chunks.as_slice() {
+        sizes.push(chunk.size)?;
+    }
+    Ok(())
+}
+
+/// The sizes of the chunks of the next items, of nine at most.
+fn sizes_ahead(alloc: Global, reader: &ItemReader) -> Result<Vec<u64>, AllocError> {
+    let mut sizes = Vec::new(alloc);
+    let mut behind = 0;
+    for _ in 0..9 {
+        let Some((chunks, end)) = reader.item_ahead(behind) else {
+            return Ok(sizes);
+        };
+        add_sizes(&chunks, &mut sizes)?;
+        behind = end;
+    }
+    Ok(sizes)
+}
+
+/// The sizes of the chunks of the two streams: that of a file's chunk, and those of the item behind it.
+static SIZES: &[u64] = &[64, 65_536, 0, 20_971_436];
+
+/// Whether a reader of two streams tells their chunks, an item that isn't whole ends the look, and the first item is still to come.
+fn tells_ahead(alloc: Global) -> bool {
+    let mut reader = ItemReader::new(alloc);
+    if reader.feed(BORG).is_err()
+        || reader.feed(PACKED).is_err()
+        || reader.feed(b"\x82\xa4path\xa1a\xa6chunks").is_err()
+    {
         return false;
     }
-    for place in 0..sizes.len() {
-        if chunks[place].size != sizes[place] {
-            return false;
-        }
+    match sizes_ahead(alloc, &reader) {
+        Ok(sizes) => sizes.as_slice() == SIZES && answer(&mut reader) == 0,
+        Err(_) => false,
     }
-    true
-}
-
-/// Whether a reader of two streams tells the chunks ahead: one of a file's, and two of the three of the item behind it.
-fn tells_three(reader: &mut ItemReader, chunks: &mut Vec<ChunkRef>) -> bool {
-    reader.feed(BORG).is_ok()
-        && reader.feed(PACKED).is_ok()
-        && reader.chunks_ahead(3, chunks).is_ok()
-        && have_sizes(chunks.as_slice(), &[64, 65_536, 0])
-}
-
-/// Whether an item that isn't whole then ends the look, and the first item is still to come.
-fn tells_the_rest(reader: &mut ItemReader, chunks: &mut Vec<ChunkRef>) -> bool {
-    reader.feed(b"\x82\xa4path\xa1a\xa6chunks").is_ok()
-        && reader.chunks_ahead(9, chunks).is_ok()
-        && chunks.len() == 7
-        && answer(reader) == 0
-}
-
-/// Whether a new reader does both.
-fn tells_ahead(alloc: Global) -> bool {
-    let mut chunks = Vec::new(alloc);
-    let mut reader = ItemReader::new(alloc);
-    tells_three(&mut reader, &mut chunks) && tells_the_rest(&mut reader, &mut chunks)
 }
 
 #[test]

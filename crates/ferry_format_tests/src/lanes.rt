@@ -14,7 +14,12 @@ fn kernels_agree() -> bool {
     is_sum && is_other && begins_with_none && zero_prefix(&bytes) == 32
 }
 
+/// Whether the zeros in front of another byte are counted, and those of no bytes.
+fn zeros_are_counted() -> bool {
+    zero_prefix(&[0, 0, 1, 0]) == 2 && zero_prefix(&[]) == 0
+}
+
 #[test]
 fn each_kernel_past_a_lane_of_32_bytes(rt: HostRuntime) {
-    assert!(rt; kernels_agree());
+    assert!(rt; kernels_agree() && zeros_are_counted());
 }

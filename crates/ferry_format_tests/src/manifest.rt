@@ -261,6 +261,56 @@ fn the_first_fault_of_a_manifest_and_of_a_record_is_told(rt: HostRuntime) {
     archive_laws();
 }
 
+/// Records without a tag, by their `items`, and the number of the fault: two ids, a name that stands twice, no array, no raw, a raw of
+/// 31 bytes and then one that is cut off, an id behind a value of another kind, bytes behind the map.
+static ITEMS: [(&[u8], u8); 9] = [
+    (
+        b"\x83\xa4name\xa1a\xa7version\x01\xa5items\x92\xc4 11111111111111111111111111111111\xda\x00 22222222222222222222222222222222",
+        0,
+    ),
+    (
+        b"\x84\xa5items\x90\xa4name\xa1a\xa5items\x90\xa7version\x01",
+        1,
+    ),
+    (
+        b"\x84\xa5items\xc0\xa4name\xa1a\xa7version\x01\xa5items\x90",
+        1,
+    ),
+    (b"\x83\xa4name\xa1a\xa7version\x01\xa5items\x81\xa1a\x90", 2),
+    (
+        b"\x83\xa4name\xa1a\xa7version\x01\xa5items\xc4 11111111111111111111111111111111",
+        2,
+    ),
+    (
+        b"\x83\xa4name\xa1a\xa7version\x01\xa5items\x91\xc4\x1f1111111111111111111111111111111",
+        2,
+    ),
+    (
+        b"\x83\xa4name\xa1a\xa7version\x01\xa5items\x92\xc4\x1f1111111111111111111111111111111\xc4 2",
+        1,
+    ),
+    (
+        b"\x83\xa4name\xa1a\xa7version\x01\xa5items\x92\x01\xc4 11111111111111111111111111111111",
+        2,
+    ),
+    (b"\x83\xa4name\xa1a\xa7version\x01\xa5items\x90\x00", 1),
+];
+
+/// Whether each of these records has its fault.
+fn items_faults_are(alloc: Global) -> bool {
+    for (bytes, fault) in &ITEMS {
+        if record_fault(alloc, &keys(), bytes) != *fault {
+            return false;
+        }
+    }
+    true
+}
+
+#[test]
+fn items_that_are_no_ids_are_a_fault(rt: HostRuntime) {
+    assert!(rt; items_faults_are(rt.alloc()));
+}
+
 /// How many archives, item keys and other names a manifest has, and whether it has a timestamp.
 fn manifest_counts(manifest: &Manifest) -> (usize, usize, usize, bool) {
     (

@@ -13,9 +13,6 @@ use crate::progress::{Progress, begun, behind, gone_on};
 use std::alloc::{AllocError, Global};
 use std::marker::Model;
 
-/// How many items a look ahead reads at most.
-const ITEMS_AHEAD: usize = 11;
-
 /// A reader of the item stream of an archive, which comes in pieces that are cut anywhere.
 ///
 /// Contracts see it as the bytes that were fed and not yet answered. What was answered is given back when a piece
@@ -108,41 +105,20 @@ impl ItemReader {
         Ok(Some(item))
     }
 
-    /// Adds the chunks of the items that `next` answers next, so far as these stand whole in the bytes that were fed, until
-    /// `chunks` has `most`. At most eleven items are looked at, and a malformed one ends the look. The reader stays where it is.
-    pub fn chunks_ahead(&self, most: usize, chunks: &mut Vec<ChunkRef>) -> Result<(), AllocError> {
+    /// The chunks of the item that stands so many bytes behind those that were answered, where it has content, and how many bytes behind
+    /// them it ends; none where no item stands whole there in the bytes that were fed, or it is malformed, or memory is refused. The reader
+    /// stays where it is.
+    pub fn item_ahead(&self, behind: usize) -> Option<(Option<ChunkRefs>, usize)> {
         let alloc = *self.bytes.allocator();
-        let mut at = self.at;
-        for _ in 0..ITEMS_AHEAD {
-            if chunks.len() >= most {
-                break;
-            }
-            let Ok(Some((item, stop))) = item_at(alloc, self.bytes.as_slice(), at) else {
-                break;
-            };
-            add_chunks(&item.chunks, most, chunks)?;
-            at = stop;
+        let at = self.at.checked_add(behind)?;
+        if at > self.bytes.len() {
+            return None;
         }
-        Ok(())
-    }
-
-    /// The chunks of the items with content that `next` answers next, so far as these stand whole in the bytes that were fed: a list for
-    /// each item. At most eleven items are looked at, and a malformed one ends the look. The reader stays where it is.
-    pub fn lists_ahead(&self) -> Result<Vec<ChunkRefs>, AllocError> {
-        let alloc = *self.bytes.allocator();
-        let mut lists = Vec::new(alloc);
-        let mut at = self.at;
-        for _ in 0..ITEMS_AHEAD {
-            let Ok(Some((item, stop))) = item_at(alloc, self.bytes.as_slice(), at) else {
-                break;
-            };
-            let Item { fields: _, chunks } = item;
-            if let Some(chunks) = chunks {
-                lists.push(chunks)?;
-            }
-            at = stop;
-        }
-        Ok(lists)
+        let Ok(Some((item, stop))) = item_at(alloc, self.bytes.as_slice(), at) else {
+            return None;
+        };
+        let Item { fields: _, chunks } = item;
+        Some((chunks, stop.checked_sub(self.at)?))
     }
 
     /// Ends the reading, once the stream has no more pieces and `next` answered none: no bytes may be left.
@@ -156,25 +132,6 @@ impl ItemReader {
         }
         Ok(())
     }
-}
-
-/// Adds an item's chunks, until there are `most`.
-fn add_chunks(
-    more: &Option<ChunkRefs>,
-    most: usize,
-    chunks: &mut Vec<ChunkRef>,
-) -> Result<(), AllocError> {
-    let Some(more) = more else {
-        return Ok(());
-    };
-    let more = more.as_slice();
-    for place in 0..more.len() {
-        if chunks.len() >= most {
-            return Ok(());
-        }
-        chunks.push(more[place])?;
-    }
-    Ok(())
 }
 
 /// Gives the first `count` bytes back, by one move of the others within the same memory.

@@ -1,4 +1,4 @@
--- Texts in four lanes, which take others where they have ended.
+-- Texts in lanes, which take others where they have ended.
 use Rattle.std.proofs.Common.{◌≡◌, ◌≢◌, ℕ, zero, suc, ◌<◌, ◌+◌, ◌-◌, ◌*◌, ◌/◌, ◌^◌, ◌⊎◌, List, [], ◌∷◌, ◌++◌, length, take, drop, slice_set}
 use Rattle.std.proofs.Common.{map, min, cond, get_or, eqb, ltb, slice_index, slice_index_or, refl, sym, ap, ◌∙◌, subst, arith, inl, inr}
 use Rattle.std.proofs.Common.{get_or-set_same, get_or-set_other}
@@ -13,8 +13,8 @@ use Rattle.std.proofs.lemmas.Bool.Decides.{eqb_tells}
 use Rattle.sha2.specs.Sha256.{compress, digest_bytes, hash_after}
 use Rattle.sha2.proofs.Absorbing256.{hash_after_next}
 use Rattle.ferry_mac.specs.Hmac.{hmac256}
-use Rattle.ferry_mac.specs.Lanes.{IsEnding, behind_key, hashed_behind, lane}
-use Rattle.ferry_mac.specs.Many.{HasMac, IsCovered, IsHashed, IsInLane, digest_behind, nth_text}
+use Rattle.ferry_mac.specs.Lanes.{IsEnding, behind_key, hashed_behind, lane, nth_text}
+use Rattle.ferry_mac.specs.Many.{HasMac, IsCovered, IsHashed, IsInLane, digest_behind}
 use Rattle.ferry_mac.specs.declared.many.End.{End}
 use Rattle.ferry_mac.specs.declared.many.Lanes.{Lanes}
 
@@ -34,16 +34,16 @@ hashed_next start text state next block b n before compressed read =
     compressed ∙ rw (before, read, on) (sym (hash_after_next start (behind_key text) (b + n)))
 
 -- a lane that has blocks left takes the next one, and any other stays
-pub hashed_on : (start text state next chosen block : List ℕ) (b n left going : ℕ) → state ≡ hash_after start (behind_key text) (b + min n left)
-    → next ≡ compress state block → (n < left → block ≡ take 64 (drop ((b + n) * 64) (behind_key text)))
+pub hashed_on : (start text state next chosen : List ℕ) (b n left going : ℕ) → state ≡ hash_after start (behind_key text) (b + min n left)
+    → (n < left → next ≡ compress state (take 64 (drop ((b + n) * 64) (behind_key text))))
     → going ≡ cond (ltb n left) 1 0 → chosen ≡ cond (eqb going 1) next state
     → chosen ≡ hash_after start (behind_key text) (b + min (n + 1) left)
-hashed_on start text state next chosen block b n left going before compressed read test choice = elim (cases_lt n left) [
+hashed_on start text state next chosen b n left going before compressed test choice = elim (cases_lt n left) [
   | inl lt ↦
       let one : going ≡ 1 = test ∙ rw (lt-ltb n left lt) refl in
       let here : min n left ≡ n = omega arith in
       let on : min (n + 1) left ≡ n + 1 = omega arith in
-      choice ∙ rw (one, on) (hashed_next start text state next block b n (rw here at before) compressed (read lt))
+      choice ∙ rw (one, on) (hashed_next start text state next (take 64 (drop ((b + n) * 64) (behind_key text))) b n (rw here at before) (compressed lt) refl)
   | inr ge ↦
       let none : going ≡ 0 = test ∙ rw (le-ltb n left ge) refl in
       let stays : min (n + 1) left ≡ min n left = omega arith in
@@ -53,17 +53,18 @@ hashed_on start text state next chosen block b n left going before compressed re
 -- ---- IsInLane
 
 -- so many blocks more are hashed
-pub lane_on : (texts : List (Bor (List ℕ))) (lanes : Lanes) (blocks lefts : List ℕ) (count l : ℕ) → IsInLane texts lanes l
-    → slice_index blocks l ≡ slice_index lanes.done l + count → slice_index lefts l + count ≡ slice_index lanes.lefts l
-    → IsInLane texts (record { places = lanes.places; done = blocks; lefts = lefts; ends = lanes.ends }) l
-lane_on texts lanes blocks lefts count l held more fewer = record {
-  ending = held.ending;
-  count = omega (arith, held.count);
+pub lane_on : {m : ℕ} (texts : List (Bor (List ℕ))) (lanes after : Lanes m) (count l : ℕ) → IsInLane texts lanes l
+    → after.places ≡ lanes.places → after.ends ≡ lanes.ends
+    → slice_index after.done l ≡ slice_index lanes.done l + count → slice_index after.lefts l + count ≡ slice_index lanes.lefts l
+    → IsInLane texts after l
+lane_on texts lanes after count l held places ends more fewer = record {
+  ending = rw (places, ends) held.ending;
+  count = rw places (omega (arith, held.count));
   fits = omega (arith, held.fits);
 }
 
 -- a text is begun in a lane
-abbrev pub begun : Lanes → ℕ → ℕ → ℕ → List ℕ → Lanes
+abbrev pub begun : {m : ℕ} → Lanes m → ℕ → ℕ → ℕ → List ℕ → Lanes m
 begun lanes l place count end = record {
   places = slice_set lanes.places l place;
   done = slice_set lanes.done l 0;
@@ -71,70 +72,68 @@ begun lanes l place count end = record {
   ends = slice_set lanes.ends l (record { bytes = end });
 }
 
-pub begun_in : (texts : List (Bor (List ℕ))) (lanes : Lanes) (l place count : ℕ) (end : List ℕ) → length lanes.places ≡ 4
-    → length lanes.done ≡ 4 → length lanes.lefts ≡ 4 → length lanes.ends ≡ 4 → l < 4 → IsEnding end (nth_text texts place)
+pub begun_lane : {m : ℕ} (texts : List (Bor (List ℕ))) (lanes : Lanes m) (l place count : ℕ) (end : List ℕ) → l < length lanes.places
+    → l < length lanes.done → l < length lanes.lefts → l < length lanes.ends → IsEnding end (nth_text texts place)
     → count ≡ length (behind_key (nth_text texts place)) / 64 → count < 2 ^ 60
-    → (j : ℕ) → IsInLane texts lanes j → IsInLane texts (begun lanes l place count end) j
-begun_in texts lanes l place count end ep eb el ee low ending counted few j held = elim (eqb_tells j l) [
-  | inl same ↦
-      let is : l ≡ j = sym same.1 in
-      let places : slice_index (slice_set lanes.places l place) l ≡ place = get_or-set_same lanes.places l place 0 (omega arith) in
-      let blocks : slice_index (slice_set lanes.done l 0) l ≡ 0 = get_or-set_same lanes.done l 0 0 (omega arith) in
-      let lefts : slice_index (slice_set lanes.lefts l count) l ≡ count = get_or-set_same lanes.lefts l count 0 (omega arith) in
-      let row : (get_or (slice_set lanes.ends l (record { bytes = end })) l (record { bytes = [] })).bytes ≡ end =
-      ap (λ (e : End). e.bytes) (get_or-set_same lanes.ends l (record { bytes = end }) (record { bytes = [] }) (omega arith)) in
-      rw (← is) (record {
-        ending = rw (row, places) ending;
-        count = rw (blocks, lefts, places) (omega (arith, counted));
-        fits = rw (blocks, lefts) (omega arith);
-      })
-  | inr other ↦
-      let ne : j ≢ l = other.1 in
-      let places : slice_index (slice_set lanes.places l place) j ≡ slice_index lanes.places j = get_or-set_other lanes.places l j place 0 ne in
-      let blocks : slice_index (slice_set lanes.done l 0) j ≡ slice_index lanes.done j = get_or-set_other lanes.done l j 0 0 ne in
-      let lefts : slice_index (slice_set lanes.lefts l count) j ≡ slice_index lanes.lefts j = get_or-set_other lanes.lefts l j count 0 ne in
-      let row : (get_or (slice_set lanes.ends l (record { bytes = end })) j (record { bytes = [] })).bytes
-      ≡ (get_or lanes.ends j (record { bytes = [] })).bytes =
-      ap (λ (e : End). e.bytes) (get_or-set_other lanes.ends l j (record { bytes = end }) (record { bytes = [] }) ne) in
-      record {
-        ending = rw (row, places) held.ending;
-        count = rw (blocks, lefts, places) held.count;
-        fits = rw (blocks, lefts) held.fits;
-      }
-]
+    → IsInLane texts (begun lanes l place count end) l
+begun_lane texts lanes l place count end ep eb el ee ending counted few =
+    let places : slice_index (slice_set lanes.places l place) l ≡ place = get_or-set_same lanes.places l place 0 ep in
+    let blocks : slice_index (slice_set lanes.done l 0) l ≡ 0 = get_or-set_same lanes.done l 0 0 eb in
+    let lefts : slice_index (slice_set lanes.lefts l count) l ≡ count = get_or-set_same lanes.lefts l count 0 el in
+    let row : (get_or (slice_set lanes.ends l (record { bytes = end })) l (record { bytes = [] })).bytes ≡ end =
+    ap (λ (e : End). e.bytes) (get_or-set_same lanes.ends l (record { bytes = end }) (record { bytes = [] }) ee) in
+    record {
+      ending = rw (row, places) ending;
+      count = rw (blocks, lefts, places) (omega (arith, counted));
+      fits = rw (blocks, lefts) (omega arith);
+    }
+
+pub begun_other : {m : ℕ} (texts : List (Bor (List ℕ))) (lanes : Lanes m) (l place count : ℕ) (end : List ℕ) (j : ℕ) → j ≢ l
+    → IsInLane texts lanes j → IsInLane texts (begun lanes l place count end) j
+begun_other texts lanes l place count end j ne held =
+    let places : slice_index (slice_set lanes.places l place) j ≡ slice_index lanes.places j = get_or-set_other lanes.places l j place 0 ne in
+    let blocks : slice_index (slice_set lanes.done l 0) j ≡ slice_index lanes.done j = get_or-set_other lanes.done l j 0 0 ne in
+    let lefts : slice_index (slice_set lanes.lefts l count) j ≡ slice_index lanes.lefts j = get_or-set_other lanes.lefts l j count 0 ne in
+    let row : (get_or (slice_set lanes.ends l (record { bytes = end })) j (record { bytes = [] })).bytes
+    ≡ (get_or lanes.ends j (record { bytes = [] })).bytes =
+    ap (λ (e : End). e.bytes) (get_or-set_other lanes.ends l j (record { bytes = end }) (record { bytes = [] }) ne) in
+    record {
+      ending = rw (row, places) held.ending;
+      count = rw (blocks, lefts, places) held.count;
+      fits = rw (blocks, lefts) held.fits;
+    }
 
 -- ---- IsHashed
 
-pub begun_hash : (h : List ℕ) (texts : List (Bor (List ℕ))) (lanes : Lanes) (start state next : List (List ℕ)) (l place count mark : ℕ) (end : List ℕ)
-    → length lanes.done ≡ 4 → l < 4 → (j : ℕ) → mark ≡ cond (eqb j l) 1 0 → lane next j ≡ cond (eqb mark 1) (lane start j) (lane state j)
-    → lane start j ≡ h → length lanes.places ≡ 4 → IsHashed h texts lanes state j → IsHashed h texts (begun lanes l place count end) next j
+-- a lane in which a text is begun has the first hash value, and the others stay
+pub begun_hash : {m : ℕ} (h : List ℕ) (texts : List (Bor (List ℕ))) (lanes after : Lanes m) (start state next : List (List ℕ)) (l mark j : ℕ)
+    → slice_index after.done l ≡ 0 → (j ≢ l → slice_index after.done j ≡ slice_index lanes.done j)
+    → (j ≢ l → slice_index after.places j ≡ slice_index lanes.places j)
+    → mark ≡ cond (eqb j l) 1 0 → lane next j ≡ cond (eqb mark 1) (lane start j) (lane state j)
+    → lane start j ≡ h → IsHashed h texts lanes state j → IsHashed h texts after next j
 unfolding hash_after
-begun_hash h texts lanes start state next l place count mark end eb low j marked chosen first ep held = elim (eqb_tells j l) [
+begun_hash h texts lanes after start state next l mark j none done places marked chosen first held = elim (eqb_tells j l) [
   | inl same ↦
       let is : l ≡ j = sym same.1 in
       let one : mark ≡ 1 = marked ∙ rw (same.0) refl in
-      let blocks : slice_index (slice_set lanes.done l 0) j ≡ 0 =
-      subst (λ j. slice_index (slice_set lanes.done l 0) j ≡ 0) is (get_or-set_same lanes.done l 0 0 (omega arith)) in
+      let blocks : slice_index after.done j ≡ 0 = subst (λ j. slice_index after.done j ≡ 0) is none in
       let taken : lane next j ≡ lane start j = chosen ∙ rw one refl in
       taken ∙ first ∙ rw blocks refl
   | inr other ↦
-      let ne : j ≢ l = other.1 in
-      let none : mark ≡ 0 = marked ∙ rw (other.0) refl in
-      let places : slice_index (slice_set lanes.places l place) j ≡ slice_index lanes.places j = get_or-set_other lanes.places l j place 0 ne in
-      let blocks : slice_index (slice_set lanes.done l 0) j ≡ slice_index lanes.done j = get_or-set_other lanes.done l j 0 0 ne in
-      let left : lane next j ≡ lane state j = chosen ∙ rw none refl in
-      left ∙ rw (places, blocks) held
+      let zero_mark : mark ≡ 0 = marked ∙ rw (other.0) refl in
+      let left : lane next j ≡ lane state j = chosen ∙ rw zero_mark refl in
+      left ∙ rw (places (other.1), done (other.1)) held
 ]
 
 -- ---- IsCovered
 
 -- the digest of a lane is put in the place of its text, and another text is begun in it
-pub covered_on : (h : List ℕ) (texts : List (Bor (List ℕ))) (places after : List ℕ) (before put : List (List ℕ)) (l : ℕ) → length before ≡ length texts
+pub covered_on : (n : ℕ) (h : List ℕ) (texts : List (Bor (List ℕ))) (places after : List ℕ) (before put : List (List ℕ)) (l : ℕ) → length before ≡ length texts
     → (slice_index places l < length before → slice_index_or put (slice_index places l) [] ≡ digest_behind h (nth_text texts (slice_index places l)))
     → ((k : ℕ) → k ≢ slice_index places l → slice_index_or put k [] ≡ slice_index_or before k [])
-    → ((j : ℕ) → j < 4 → j ≢ l → slice_index after j ≡ slice_index places j)
-    → (k : ℕ) → k < length texts → IsCovered h texts places before k → IsCovered h texts after put k
-covered_on h texts places after before put l size right others moved k low covered = elim (eqb_tells k (slice_index places l)) [
+    → ((j : ℕ) → j < n → j ≢ l → slice_index after j ≡ slice_index places j)
+    → (k : ℕ) → k < length texts → IsCovered n h texts places before k → IsCovered n h texts after put k
+covered_on n h texts places after before put l size right others moved k low covered = elim (eqb_tells k (slice_index places l)) [
   | inl same ↦ inl (rw (same.1) (right (omega (arith, same.1))))
   | inr other ↦ elim covered [
     | inl digest ↦ inl (others k (other.1) ∙ digest)
@@ -146,16 +145,16 @@ covered_on h texts places after before put l size right others moved k low cover
 ]
 
 -- one lane more has its digest in the place of its text
-pub put_more : (h : List ℕ) (texts : List (Bor (List ℕ))) (places : List ℕ) (first before put state : List (List ℕ)) (l k : ℕ) → l < 4
+pub put_more : (n : ℕ) (h : List ℕ) (texts : List (Bor (List ℕ))) (places : List ℕ) (first before put state : List (List ℕ)) (l k : ℕ) → l < n
     → k < length first → length before ≡ length first
-    → ((j : ℕ) → j < 4 → lane state j ≡ hashed_behind h (nth_text texts (slice_index places j)))
+    → ((j : ℕ) → j < n → lane state j ≡ hashed_behind h (nth_text texts (slice_index places j)))
     → (slice_index places l < length before → slice_index_or put (slice_index places l) [] ≡ digest_bytes (lane state l) 8)
     → ((k : ℕ) → k ≢ slice_index places l → slice_index_or put k [] ≡ slice_index_or before k [])
     → ((slice_index_or first k [] ≡ digest_behind h (nth_text texts k)) ⊎ ((j : ℕ) × (j < l) × (slice_index places j ≡ k))
     → slice_index_or before k [] ≡ digest_behind h (nth_text texts k))
     → (slice_index_or first k [] ≡ digest_behind h (nth_text texts k)) ⊎ ((j : ℕ) × (j < l + 1) × (slice_index places j ≡ k))
     → slice_index_or put k [] ≡ digest_behind h (nth_text texts k)
-put_more h texts places first before put state l k inside low size hashed here others so_far covered = elim (eqb_tells k (slice_index places l)) [
+put_more n h texts places first before put state l k inside low size hashed here others so_far covered = elim (eqb_tells k (slice_index places l)) [
   | inl same ↦
       rw (same.1) (here (omega (arith, same.1)) ∙ ap (λ s. digest_bytes s 8) (hashed l inside))
   | inr other ↦ others k (other.1) ∙ so_far (elim covered [

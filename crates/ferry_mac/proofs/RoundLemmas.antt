@@ -2,9 +2,10 @@
 use Rattle.std.proofs.Common.{◌≡◌, ◌≢◌, ℕ, ◌<◌, ◌+◌, ◌-◌, ◌≤◌, List, [], length, slice_index, slice_set, sym, ap, ◌∙◌, inl, inr, arith}
 use Rattle.std.proofs.lemmas.List.{get_or-set_same, get_or-set_other}
 use Rattle.std.proofs.lemmas.Bool.{cases_lt}
+use Rattle.std.proofs.lemmas.Bool.Decides.{eqb_tells}
 use Rattle.sha2.specs.Sha256.{add32, round, round_constants, rounds, schedule, small_sigma0, small_sigma1}
 use Rattle.sha2.proofs.Schedule256.{rounds_next, slice_index-schedule_first, slice_index-schedule_next}
-use Rattle.ferry_mac.specs.Lanes.{HasWords, IsScheduled, lane_at}
+use Rattle.ferry_mac.specs.Lanes.{HasRows, HasWords, IsScheduled, lane_at}
 
 -- one more word of a message
 pub lane_at-set_more : (wanted : ℕ → ℕ) (vectors : List (List ℕ)) (vector : List ℕ) (t l : ℕ) → t < length vectors
@@ -43,3 +44,10 @@ pub rounds_more : (h w v next : List ℕ) (t constant word after : ℕ) → v �
     → constant ≡ slice_index round_constants t → word ≡ slice_index w t → t + 1 ≡ after → next ≡ rounds h w after
 rounds_more h w v next t constant word after ev en ek ew et =
     rw (← et, rounds_next h w t, ← ev, ← ek, ← ew) en
+
+-- a row is put anew
+pub rows_set : (w : List (List ℕ)) (t n : ℕ) (row : List ℕ) → t < length w → length row ≡ n → HasRows w n → HasRows (slice_set w t row) n
+rows_set w t n row fits long held i low = elim (eqb_tells i t) [
+  | inl same ↦ rw (same.1) (ap length (get_or-set_same w t row [] fits) ∙ long)
+  | inr apart ↦ ap length (get_or-set_other w t i row [] (apart.1)) ∙ held i low
+]

@@ -1,5 +1,6 @@
--- Four messages side by side: each word is a vector with a lane for each message.
-use Rattle.std.specs.Prelude.{ℕ, ◌≡◌, ◌<◌, ◌+◌, ◌*◌, ◌/◌, List, [], ◌∷◌, ◌++◌, length, take, drop, slice_index, slice_index_or}
+-- Messages side by side: each word is a vector with a lane for each message.
+use Rattle.std.specs.Prelude.{ℕ, ◌≡◌, ◌<◌, ◌+◌, ◌*◌, ◌/◌, List, [], ◌∷◌, ◌++◌, length, map, take, drop, slice_index, slice_index_or}
+use Rattle.std.specs.Borrow.{Bor}
 use Rattle.sha2.specs.Sha256.{hash_after, padding, schedule, word_at}
 
 -- word i of message l
@@ -32,3 +33,11 @@ hashed_behind start text = hash_after start (behind_key text) (length (behind_ke
 abbrev pub IsEnding : List ℕ → List ℕ → Type 0
 IsEnding end text =
     take (length (drop (length text / 64 * 64) (behind_key text))) end ≡ drop (length text / 64 * 64) (behind_key text)
+
+-- the text in a place, and no bytes behind the last one
+abbrev pub nth_text : List (Bor (List ℕ)) → ℕ → List ℕ
+nth_text texts k = slice_index_or (map (λ text. text.now) texts) k []
+
+-- each of the 64 rows of words has one of each of n messages
+abbrev pub HasRows : List (List ℕ) → ℕ → Type 0
+HasRows words n = (i : ℕ) → i < 64 → length (slice_index_or words i []) ≡ n

@@ -1,16 +1,16 @@
-//! The hash computation of SHA-256 (FIPS 180-4, 6.2.2) on a block of each of four messages, side by side.
-ghost use Rattle.std.specs.Prelude.{ℕ, List, [], ◌∷◌, ◌≡◌, ◌<◌, ◌≤◌, ◌+◌, ◌*◌, length, slice_index, slice_index_or};
+//! The hash computation of SHA-256 (FIPS 180-4, 6.2.2) on a block of each of N messages, side by side.
+ghost use Rattle.std.specs.Prelude.{ℕ, List, [], ◌∷◌, ◌≡◌, ◌≢◌, ◌<◌, ◌≤◌, ◌+◌, ◌*◌, length, slice_index, slice_index_or};
 ghost use Rattle.sha2.specs.Sha256.{add32, add_state, big_sigma1, ch, compress, round, rounds, schedule, small_sigma0, small_sigma1, word_at};
-ghost use Rattle.ferry_mac.specs.Lanes.{lane, lane_at, IsScheduled, HasWords};
+ghost use Rattle.ferry_mac.specs.Lanes.{lane, lane_at, IsScheduled, HasRows, HasWords};
 
 use crate::lanes::{big_sigma0, big_sigma1, ch, maj, small_sigma0, small_sigma1, sum};
 use std::simd::prelude::*;
 
-/// The hash values of four messages: vector i has word i of each.
-pub(crate) type State = [u32x4; 8];
+/// The hash values of N messages: vector i has word i of each.
+pub(crate) type State<const N: usize> = [Simd<u32, N>; 8];
 
-/// W of a block of each of four messages (6.2.2, step 1): vector t has word t of each.
-pub(crate) type Schedule = [u32x4; 64];
+/// W of a block of each of N messages (6.2.2, step 1): row t has word t of each.
+pub(crate) type Schedule<const N: usize> = [[u32; N]; 64];
 
 /// K (4.2.2).
 static ROUND_CONSTANTS: [u32; 64] = [
@@ -39,104 +39,141 @@ fn word(block: &[u8], place: usize) -> u32
     ])
 }
 
-/// Puts the words of a block of each of four messages at the head of `w`.
+/// Puts the words of a block at the head of W of message `l`.
 #[inline(always)]
-pub(crate) fn put_words(w: &mut Schedule, a: &[u8], b: &[u8], c: &[u8], d: &[u8])
-    requires first { length a.now ≡ 64 }
-    requires second { length b.now ≡ 64 }
-    requires third { length c.now ≡ 64 }
-    requires fourth { length d.now ≡ 64 }
-    ensures { (l : ℕ) → l < 4 → HasWords w.new l (slice_index_or (a.now ∷ b.now ∷ c.now ∷ d.now ∷ []) l []) }
+pub(crate) fn put_words<const N: usize>(w: &mut Schedule<N>, l: usize, block: &[u8])
+    requires lane { l < N }
+    requires length { length block.now ≡ 64 }
+    requires rows { HasRows w.old N }
+    ensures rows { HasRows w.new N }
+    ensures words { HasWords w.new l block.now }
+    ensures others { (j : ℕ) (other : List ℕ) → j ≢ l → HasWords w.old j other → HasWords w.new j other }
 {
     for place in 0..16usize {
-        w[place] = u32x4::from_array([
-            word(a, place),
-            word(b, place),
-            word(c, place),
-            word(d, place),
-        ]);
+        w[place][l] = word(block, place);
     }
 }
 
 /// A word of W from the words 2, 7, 15 and 16 places before it (6.2.2, step 1).
 #[inline(always)]
-fn next_word(two: u32x4, seven: u32x4, fifteen: u32x4, sixteen: u32x4) -> u32x4
-    ensures { (l : ℕ) → l < 4 → slice_index result l ≡
-        add32 (add32 (add32 (small_sigma1 (slice_index two l)) (slice_index seven l)) (small_sigma0 (slice_index fifteen l)))
-        (slice_index sixteen l) }
+fn next_word<const N: usize>(
+    two: Simd<u32, N>,
+    seven: Simd<u32, N>,
+    fifteen: Simd<u32, N>,
+    sixteen: Simd<u32, N>,
+) -> Simd<u32, N>
+    ensures { (l : ℕ) → l < N → slice_index result l ≡
+        add32 (add32 (add32 (small_sigma1 (slice_index two.entry l)) (slice_index seven.entry l)) (small_sigma0 (slice_index fifteen.entry l)))
+        (slice_index sixteen.entry l) }
 {
     let near = sum(small_sigma1(two), seven);
     let far = sum(near, small_sigma0(fifteen));
     sum(far, sixteen)
 }
 
+/// The lanes of a vector.
+#[inline(always)]
+fn row<const N: usize>(vector: Simd<u32, N>) -> [u32; N]
+    ensures length { length result ≡ N }
+    ensures lanes { result ≡ vector.entry }
+{
+    vector.to_array()
+}
+
 /// Works out the words of W behind the first 16 (6.2.2, step 1).
 #[inline(always)]
-fn extend_schedule(w: &mut Schedule)
-    ensures { (l : ℕ) (block : List ℕ) → l < 4 → HasWords w.old l block → IsScheduled w.new 64 l block }
+fn extend_schedule<const N: usize>(w: &mut Schedule<N>)
+    requires rows { HasRows w.old N }
+    ensures rows { HasRows w.new N }
+    ensures words { (l : ℕ) (block : List ℕ) → l < N → HasWords w.old l block → IsScheduled w.new 64 l block }
 {
     for t in 16..64usize {
-        w[t] = next_word(w[t - 2], w[t - 7], w[t - 15], w[t - 16]);
+        let next = next_word(
+            Simd::from_array(w[t - 2]),
+            Simd::from_array(w[t - 7]),
+            Simd::from_array(w[t - 15]),
+            Simd::from_array(w[t - 16]),
+        );
+        w[t] = row(next);
     }
 }
 
 /// T1 of a round (6.2.2, step 3).
 #[inline(always)]
-fn first_sum(e: u32x4, f: u32x4, g: u32x4, h: u32x4, constant: u32, word: u32x4) -> u32x4
-    ensures { (l : ℕ) → l < 4 → slice_index result l ≡
-        add32 (add32 (add32 (add32 (slice_index h l) (big_sigma1 (slice_index e l))) (ch (slice_index e l) (slice_index f l) (slice_index g l)))
-        constant) (slice_index word l) }
+fn first_sum<const N: usize>(
+    e: Simd<u32, N>,
+    f: Simd<u32, N>,
+    g: Simd<u32, N>,
+    h: Simd<u32, N>,
+    constant: u32,
+    word: Simd<u32, N>,
+) -> Simd<u32, N>
+    ensures { (l : ℕ) → l < N → slice_index result l ≡
+        add32 (add32 (add32 (add32 (slice_index h.entry l) (big_sigma1 (slice_index e.entry l)))
+        (ch (slice_index e.entry l) (slice_index f.entry l) (slice_index g.entry l)))
+        constant) (slice_index word.entry l) }
 {
     let sigma = sum(h, big_sigma1(e));
     let chosen = sum(sigma, ch(e, f, g));
-    let constant = sum(chosen, u32x4::splat(constant));
+    let constant = sum(chosen, Simd::splat(constant));
     sum(constant, word)
 }
 
 /// A round on the working variables (6.2.2, step 3).
 #[inline(always)]
-fn round(v: State, constant: u32, word: u32x4) -> State
-    ensures { (l : ℕ) → l < 4 → lane result l ≡ round (lane v l) constant (slice_index word l) }
+fn round<const N: usize>(v: State<N>, constant: u32, word: Simd<u32, N>) -> State<N>
+    ensures { (l : ℕ) → l < N → lane result l ≡ round (lane v.entry l) constant (slice_index word.entry l) }
 {
     let [a, b, c, d, e, f, g, h] = v;
     let first = first_sum(e, f, g, h, constant, word);
     let second = sum(big_sigma0(a), maj(a, b, c));
-    [sum(first, second), a, b, c, sum(d, first), e, f, g]
+    let mut next = v;
+    next[0] = sum(first, second);
+    next[1] = a;
+    next[2] = b;
+    next[3] = c;
+    next[4] = sum(d, first);
+    next[5] = e;
+    next[6] = f;
+    next[7] = g;
+    next
 }
 
 /// Four rounds from round `t` on.
 #[inline(always)]
-fn four_rounds(v: State, w: &Schedule, t: usize) -> State
+fn four_rounds<const N: usize>(v: State<N>, w: &Schedule<N>, t: usize) -> State<N>
     requires { t + 4 ≤ 64 }
-    ensures { (l : ℕ) (h block : List ℕ) → l < 4 → IsScheduled w.now 64 l block → lane v l ≡ rounds h (schedule block 48) t
+    ensures { (l : ℕ) (h block : List ℕ) → l < N → IsScheduled w.now 64 l block → lane v.entry l ≡ rounds h (schedule block 48) t
         → lane result l ≡ rounds h (schedule block 48) (t + 4) }
 {
-    let first = round(v, ROUND_CONSTANTS[t], w[t]);
-    let second = round(first, ROUND_CONSTANTS[t + 1], w[t + 1]);
-    let third = round(second, ROUND_CONSTANTS[t + 2], w[t + 2]);
-    round(third, ROUND_CONSTANTS[t + 3], w[t + 3])
+    let first = round(v, ROUND_CONSTANTS[t], Simd::from_array(w[t]));
+    let second = round(first, ROUND_CONSTANTS[t + 1], Simd::from_array(w[t + 1]));
+    let third = round(second, ROUND_CONSTANTS[t + 2], Simd::from_array(w[t + 2]));
+    round(third, ROUND_CONSTANTS[t + 3], Simd::from_array(w[t + 3]))
 }
 
 /// The hash values `state` with the working variables added (6.2.2, step 4).
 #[inline(always)]
-fn added(state: &State, v: &State) -> State
-    ensures { (l : ℕ) → l < 4 → lane result l ≡ add_state (lane state.now l) (lane v.now l) }
+fn added<const N: usize>(state: &State<N>, v: &State<N>) -> State<N>
+    ensures { (l : ℕ) → l < N → lane result l ≡ add_state (lane state.now l) (lane v.now l) }
 {
-    [
-        sum(state[0], v[0]),
-        sum(state[1], v[1]),
-        sum(state[2], v[2]),
-        sum(state[3], v[3]),
-        sum(state[4], v[4]),
-        sum(state[5], v[5]),
-        sum(state[6], v[6]),
-        sum(state[7], v[7]),
-    ]
+    let mut added = *state;
+    added[0] = sum(state[0], v[0]);
+    added[1] = sum(state[1], v[1]);
+    added[2] = sum(state[2], v[2]);
+    added[3] = sum(state[3], v[3]);
+    added[4] = sum(state[4], v[4]);
+    added[5] = sum(state[5], v[5]);
+    added[6] = sum(state[6], v[6]);
+    added[7] = sum(state[7], v[7]);
+    added
 }
 
-/// The hash values of four messages after one more block of each, whose words `w` has at its head.
-pub(crate) fn compressed(state: &State, w: &mut Schedule) -> State
-    ensures { (l : ℕ) (block : List ℕ) → l < 4 → HasWords w.old l block
+/// The hash values of N messages after one more block of each, whose words `w` has at its head.
+pub(crate) fn compressed<const N: usize>(state: &State<N>, w: &mut Schedule<N>) -> State<N>
+    requires rows { HasRows w.old N }
+    ensures rows { HasRows w.new N }
+    ensures hash { (l : ℕ) (block : List ℕ) → l < N → HasWords w.old l block
         → lane result l ≡ compress (lane state.now l) block }
 {
     extend_schedule(w);

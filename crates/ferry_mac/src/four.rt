@@ -1,17 +1,18 @@
-//! HMAC over SHA-256 of four texts, side by side.
+//! HMAC over SHA-256 of four texts, side by side, and the parts of it that any number of lanes have.
 ghost use Rattle.std.specs.Prelude.{ℕ, List, [], ◌∷◌, ◌++◌, ◌≡◌, ◌<◌, ◌≤◌, ◌+◌, ◌-◌, ◌*◌};
 ghost use Rattle.std.specs.Prelude.{◌/◌, if◌then◌else◌, ◌==◌, nat_lt, length, map, replicate, take, drop, slice_index, slice_index_or};
 ghost use Rattle.sha2.specs.Sha256.{compress, digest_bytes, hash_after, initial_hash_256};
 ghost use Rattle.ferry_mac.specs.Hmac.{hmac256};
 ghost use Rattle.std.specs.Int.{w64, to_be_bytes};
-ghost use Rattle.ferry_mac.specs.Lanes.{lane, behind_key, hashed_behind, IsEnding};
+ghost use Rattle.ferry_mac.specs.Lanes.{lane, behind_key, nth_text, IsEnding};
 
 use crate::compression::{State, compressed, put_words};
 use crate::mac256::{BLOCK_LEN, INNER_PAD, OUTER_PAD, block_of, padded};
+use crate::many::hashed;
 use std::simd::prelude::*;
 
 /// The initial hash value of SHA-256 (FIPS 180-4, 5.3.3), once for each message.
-fn initial() -> State
+fn initial() -> State<4>
     ensures { (l : ℕ) → l < 4 → lane result l ≡ initial_hash_256 }
 {
     [
@@ -27,12 +28,30 @@ fn initial() -> State
 }
 
 /// The hash value after the block of a key, once for each message.
-pub(crate) fn keyed(block: &[u8; 64]) -> State
+pub(crate) fn keyed(block: &[u8; 64]) -> State<4>
     ensures { (l : ℕ) → l < 4 → lane result l ≡ compress initial_hash_256 block.now }
 {
-    let mut w = [u32x4::splat(0); 64];
-    put_words(&mut w, block, block, block, block);
+    let mut w = [[0u32; 4]; 64];
+    for l in 0..4usize {
+        put_words(&mut w, l, block);
+    }
     compressed(&initial(), &mut w)
+}
+
+/// The hash value of the first of four messages, once for each of eight.
+pub(crate) fn widened(state: &State<4>) -> State<8>
+    ensures { (l : ℕ) → l < 8 → lane result l ≡ lane state.now 0 }
+{
+    [
+        u32x8::splat(state[0].to_array()[0]),
+        u32x8::splat(state[1].to_array()[0]),
+        u32x8::splat(state[2].to_array()[0]),
+        u32x8::splat(state[3].to_array()[0]),
+        u32x8::splat(state[4].to_array()[0]),
+        u32x8::splat(state[5].to_array()[0]),
+        u32x8::splat(state[6].to_array()[0]),
+        u32x8::splat(state[7].to_array()[0]),
+    ]
 }
 
 /// How many blocks a text and its padding have. The padding has 9 bytes at least (5.1.1).
@@ -102,86 +121,66 @@ pub(crate) fn block_at<'a>(text: &'a [u8], end: &'a [u8; 128], n: usize) -> &'a 
 
 /// For each message the word of `next` where `going` is 1, and else that of `state`.
 #[inline(always)]
-fn word_kept(going: u32x4, next: u32x4, state: u32x4) -> u32x4
-    ensures { (l : ℕ) → l < 4
-        → slice_index result l ≡ (if slice_index going l == 1 then slice_index next l else slice_index state l) }
+fn word_kept<const N: usize>(
+    going: Simd<u32, N>,
+    next: Simd<u32, N>,
+    state: Simd<u32, N>,
+) -> Simd<u32, N>
+    ensures { (l : ℕ) → l < N → slice_index result l
+        ≡ (if slice_index going.entry l == 1 then slice_index next.entry l else slice_index state.entry l) }
 {
-    going.simd_eq(u32x4::splat(1)).select(next, state)
+    going.simd_eq(Simd::splat(1)).select(next, state)
 }
 
 /// For each message the hash value of `next` where `going` is 1, and else that of `state`.
 #[inline(always)]
-pub(crate) fn kept(going: u32x4, next: &State, state: &State) -> State
-    ensures { (l : ℕ) → l < 4 → lane result l ≡ (if slice_index going l == 1 then lane next.now l else lane state.now l) }
+pub(crate) fn kept<const N: usize>(
+    going: Simd<u32, N>,
+    next: &State<N>,
+    state: &State<N>,
+) -> State<N>
+    ensures { (l : ℕ) → l < N
+        → lane result l ≡ (if slice_index going.entry l == 1 then lane next.now l else lane state.now l) }
 {
-    [
-        word_kept(going, next[0], state[0]),
-        word_kept(going, next[1], state[1]),
-        word_kept(going, next[2], state[2]),
-        word_kept(going, next[3], state[3]),
-        word_kept(going, next[4], state[4]),
-        word_kept(going, next[5], state[5]),
-        word_kept(going, next[6], state[6]),
-        word_kept(going, next[7], state[7]),
-    ]
+    let mut kept = *state;
+    kept[0] = word_kept(going, next[0], state[0]);
+    kept[1] = word_kept(going, next[1], state[1]);
+    kept[2] = word_kept(going, next[2], state[2]);
+    kept[3] = word_kept(going, next[3], state[3]);
+    kept[4] = word_kept(going, next[4], state[4]);
+    kept[5] = word_kept(going, next[5], state[5]);
+    kept[6] = word_kept(going, next[6], state[6]);
+    kept[7] = word_kept(going, next[7], state[7]);
+    kept
 }
 
-/// 1 for each of four messages that has more blocks than `n`, and 0 for the others.
+/// 1 for each of N messages that has more blocks than `n`, and 0 for the others.
 #[inline(always)]
-pub(crate) fn going(counts: [usize; 4], n: usize) -> u32x4
-    ensures { (l : ℕ) → l < 4 → slice_index result l ≡ (if nat_lt n (slice_index counts l) then 1 else 0) }
+pub(crate) fn going<const N: usize>(counts: &[usize; N], n: usize) -> Simd<u32, N>
+    ensures { (l : ℕ) → l < N → slice_index result l ≡ (if nat_lt n (slice_index counts.now l) then 1 else 0) }
 {
-    u32x4::from_array([
-        u32::from(n < counts[0]),
-        u32::from(n < counts[1]),
-        u32::from(n < counts[2]),
-        u32::from(n < counts[3]),
-    ])
-}
-
-/// The most blocks of four messages.
-pub(crate) fn most(counts: [usize; 4]) -> usize
-    ensures each { (l : ℕ) → l < 4 → slice_index counts l ≤ result }
-    ensures least { (bound : ℕ) → ((l : ℕ) → l < 4 → slice_index counts l ≤ bound) → result ≤ bound }
-{
-    let [a, b, c, d] = counts;
-    a.max(b).max(c.max(d))
-}
-
-/// The hash values of four messages, each a block and a text. `start` has their hash values after the
-/// blocks. A message that has ended stands still while others go on.
-pub(crate) fn hashed(start: &State, texts: [&[u8]; 4]) -> State
-    ensures { (l : ℕ) → l < 4
-        → lane result l ≡ hashed_behind (lane start.now l) (slice_index_or (map (λ text. text.now) texts.entry) l []) }
-{
-    let [a, b, c, d] = texts;
-    let ends = [ending(a), ending(b), ending(c), ending(d)];
-    let counts = [
-        block_count(a),
-        block_count(b),
-        block_count(c),
-        block_count(d),
-    ];
-    let mut w = [u32x4::splat(0); 64];
-    let mut state = *start;
-    for n in 0..most(counts) {
-        put_words(
-            &mut w,
-            block_at(a, &ends[0], n),
-            block_at(b, &ends[1], n),
-            block_at(c, &ends[2], n),
-            block_at(d, &ends[3], n),
-        );
-        let next = compressed(&state, &mut w);
-        let chosen = kept(going(counts, n), &next, &state);
-        state = chosen;
+    let mut marks = [0u32; N];
+    for l in 0..N {
+        marks[l] = u32::from(n < counts[l]);
     }
-    state
+    Simd::from_array(marks)
+}
+
+/// The most blocks of N messages.
+pub(crate) fn most<const N: usize>(counts: &[usize; N]) -> usize
+    ensures each { (l : ℕ) → l < N → slice_index counts.now l ≤ result }
+    ensures least { (bound : ℕ) → ((l : ℕ) → l < N → slice_index counts.now l ≤ bound) → result ≤ bound }
+{
+    let mut most = 0usize;
+    for l in 0..N {
+        most = most.max(counts[l]);
+    }
+    most
 }
 
 /// The digest of message `place` (FIPS 180-4, 6.2.2).
-pub(crate) fn digest(state: &State, place: usize) -> [u8; 32]
-    requires { place < 4 }
+pub(crate) fn digest<const N: usize>(state: &State<N>, place: usize) -> [u8; 32]
+    requires { place < N }
     ensures { result ≡ digest_bytes (lane state.now place) 8 }
 {
     let mut out = [0u8; 32];
@@ -193,7 +192,7 @@ pub(crate) fn digest(state: &State, place: usize) -> [u8; 32]
 }
 
 /// The digests of four messages.
-pub(crate) fn digests(state: &State) -> [[u8; 32]; 4]
+fn digests(state: &State<4>) -> [[u8; 32]; 4]
     ensures { result ≡ digest_bytes (lane state.now 0) 8 ∷ digest_bytes (lane state.now 1) 8
         ∷ digest_bytes (lane state.now 2) 8 ∷ digest_bytes (lane state.now 3) 8 ∷ [] }
 {
@@ -218,8 +217,8 @@ pub fn hmac256_four(key: &[u8], texts: [&[u8]; 4]) -> [[u8; 32]; 4]
     let block = block_of(key);
     let inner_block = padded(&block, INNER_PAD);
     let outer_block = padded(&block, OUTER_PAD);
-    let inner = hashed(&keyed(&inner_block), texts);
+    let inner = hashed(&keyed(&inner_block), &texts);
     let [a, b, c, d] = digests(&inner);
-    let outer = hashed(&keyed(&outer_block), [&a, &b, &c, &d]);
+    let outer = hashed(&keyed(&outer_block), &[&a, &b, &c, &d]);
     digests(&outer)
 }

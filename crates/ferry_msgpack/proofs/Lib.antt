@@ -6,6 +6,7 @@ pub mod Places
 pub mod ViewLemmas
 pub mod Levels
 pub mod Loops
+pub mod ApartLemmas
 pub mod Copying
 pub mod Appending
 pub mod ShortestLemmas

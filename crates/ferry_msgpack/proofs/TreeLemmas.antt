@@ -11,10 +11,10 @@ use Rattle.ferry_msgpack.specs.Tree.{Tree, Pairs, no_pairs, pair, put}
 turned : (k l : List ℕ) (o : Ordering) → slice_cmp nat_cmp k l ≡ o → slice_cmp nat_cmp l k ≡ ordering_reverse o
 turned k l o e = nat_list_cmp_total.antisymm l k ∙ ap ordering_reverse e
 
-same_text : (k l : List ℕ) → slice_cmp nat_cmp k l ≡ Equal → k ≡ l
+pub same_text : (k l : List ℕ) → slice_cmp nat_cmp k l ≡ Equal → k ≡ l
 same_text k l e = (bytes_eq-Decides k l).0 (sym (is_eq-slice_cmp k l) ∙ ap is_eq e)
 
-self_equal : (k : List ℕ) → slice_cmp nat_cmp k k ≡ Equal
+pub self_equal : (k : List ℕ) → slice_cmp nat_cmp k k ≡ Equal
 self_equal k = tied_itself nat_list_cmp_total k
 
 swap_none : (k l : List ℕ) (t u : Tree) (o : Ordering) → slice_cmp nat_cmp k l ≡ o → o ≢ Equal → put k t (put l u no_pairs) ≡ put l u (put k t no_pairs)

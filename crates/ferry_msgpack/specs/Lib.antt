@@ -5,6 +5,7 @@ pub mod FirstView
 pub mod Spelling
 pub mod Faults
 pub mod Reading
+pub mod Apart
 pub mod Shortest
 pub mod Writable
 pub mod WritableTest

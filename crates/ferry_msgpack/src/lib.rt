@@ -6,6 +6,7 @@
 //! keys of which none repeats, and with at most 64 arrays and maps inside each other.
 #![tactic(auto)]
 
+mod apart;
 mod copy;
 mod fault;
 mod first;
@@ -17,6 +18,7 @@ mod value;
 mod writable;
 mod writing;
 
+pub use apart::{Apart, read_map_apart};
 pub use fault::PackFault;
 pub use laws::spelling_laws;
 pub use reading::read;

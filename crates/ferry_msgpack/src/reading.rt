@@ -44,7 +44,11 @@ pub fn read(alloc: Global, bytes: &[u8], at: usize) -> Result<(Value, usize), Pa
 /// The value at the front, in which at most `depth` arrays and maps stand inside each other, and what follows it.
 #[cycle(value)]
 #[tactic(auto, unfolding(crate::specs::Reading::value_at))]
-fn value_of(alloc: Global, depth: usize, bytes: &[u8]) -> Result<(Value, &[u8]), PackFault>
+pub(crate) fn value_of(
+    alloc: Global,
+    depth: usize,
+    bytes: &[u8],
+) -> Result<(Value, &[u8]), PackFault>
     ensures { Gives (λ x. (value_view x.0, x.1.now)) result (value_at depth bytes.now) }
 {
     let [first, rest @ ..] = bytes else {
@@ -164,7 +168,7 @@ fn pairs_of(
 }
 
 /// The pairs of a map as a vector, the least key first.
-fn pairs_in_order(
+pub(crate) fn pairs_in_order(
     alloc: Global,
     found: BTreeMap<Vec<u8>, Value>,
 ) -> Result<Vec<(Vec<u8>, Value)>, AllocError>

@@ -1,8 +1,13 @@
 -- Pieces that were prepared before they came.
-use Rattle.std.proofs.Common.{◌≡◌, ◌+◌, ℕ, zero, suc, Bool, List, [], ◌∷◌, Vec, Global, drop, length, map, slice_index_or, refl, sym, ◌∙◌, ap}
+use Rattle.std.proofs.Common.{◌≡◌, ◌+◌, ◌<◌, ℕ, zero, suc, Bool, true, false, List, [], ◌∷◌, Vec, Global, drop, length, map, nat_lt, take}
+use Rattle.std.proofs.Common.{get_or, slice_index_or, refl, sym, ◌∙◌, ap, subst}
+use Rattle.std.proofs.lemmas.Bool.{ltb-true}
+use Rattle.std.proofs.lemmas.List.{get_or-take, take-map}
 use Rattle.ferry_blob.specs.Batch.{bytes_at}
 use Rattle.ferry_blob.specs.Blob.{content_id}
-use Rattle.ferry_piece.specs.Foreseen.{IsForeseen, pieces_in}
+use Rattle.ferry_blob.specs.declared.mode.Mode.{Mode}
+use Rattle.ferry_mac.specs.declared.keys.Keys.{Keys}
+use Rattle.ferry_piece.specs.Foreseen.{IsForeseen, piece_of, pieces_in}
 use Rattle.ferry_repo.specs.Opening.{RepoState, mode_of}
 use Rattle.ferry_store.specs.Piece.{IsPrepared, Prepares}
 
@@ -35,3 +40,19 @@ foreseen_prepared repo piece id is_blob buffer p = record {
   limit = p.limit;
   ready = p.ready;
 }
+
+-- what was foreseen, where the copies of blobs alone are kept
+pub foreseen_kept : (keys : Keys) (mode : Mode) (pieces : List (Vec ℕ Global)) (blobs k : ℕ) (id buffer : List ℕ)
+    → IsForeseen keys mode (bytes_at pieces k) id (nat_lt k blobs) buffer
+    → IsForeseen keys mode (piece_of (nat_lt k blobs) (bytes_at (take blobs pieces) k) buffer) id (nat_lt k blobs) buffer
+foreseen_kept keys mode pieces blobs k id buffer p = by (nat_lt k blobs) refl p where
+  items : Vec ℕ Global → List ℕ
+  items v = v.items
+
+  same : k < blobs → bytes_at (take blobs pieces) k ≡ bytes_at pieces k
+  same lt = ap (λ (ps : List (List ℕ)). get_or ps k []) (sym (take-map items blobs pieces)) ∙ get_or-take blobs (map items pieces) k [] lt
+
+  by : (is_blob : Bool) → nat_lt k blobs ≡ is_blob → IsForeseen keys mode (bytes_at pieces k) id is_blob buffer
+      → IsForeseen keys mode (piece_of is_blob (bytes_at (take blobs pieces) k) buffer) id is_blob buffer
+  by true lt p = subst (λ (piece : List ℕ). IsForeseen keys mode piece id true buffer) (sym (same (ltb-true k blobs lt))) p
+  by false lt p = subst (λ (piece : List ℕ). IsForeseen keys mode piece id false buffer) (sym p.content) p

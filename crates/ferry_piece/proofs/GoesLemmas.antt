@@ -1,12 +1,11 @@
 -- Lemmas on GoesOn of specs/Puts.antt, and on what comes behind a checkpoint.
-use Rattle.std.proofs.Common.{◌≡◌, ◌≢◌, ◌⊎◌, inl, inr, ◌+◌, ℕ, List, [], ◌∷◌, ◌++◌}
+use Rattle.std.proofs.Common.{◌≡◌, ◌≢◌, ◌⊎◌, inl, inr, ℕ, List, [], ◌∷◌, ◌++◌}
 use Rattle.std.proofs.Common.{refl, sym, ◌∙◌, ap, subst}
 use Rattle.std.proofs.lemmas.List.{append-nil}
 use Rattle.ferry_mac.specs.declared.keys.Keys.{Keys}
 use Rattle.ferry_segment.specs.Entry.{LogEntry}
 use Rattle.ferry_store.specs.Standing.{committed_of, entries_committed, entries_of}
 use Rattle.ferry_store.specs.State.{Written}
-use Rattle.ferry_write.specs.Room.{behind}
 use Rattle.ferry_piece.specs.Puts.{Addition, AddsAll, AddsFirst, AtBegin, Border, ComesBefore, ComesBeforeNext, GoesOn}
 use Rattle.ferry_piece.specs.Puts.{IsCheckpoint, IsFront, Within, border_behind}
 use Rattle.ferry_piece.specs.Puts.{pending_in}

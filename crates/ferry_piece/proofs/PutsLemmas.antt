@@ -9,7 +9,6 @@ use Rattle.ferry_segment.specs.Entry.{LogEntry, PutEntry, DeleteEntry, CommitEnt
 use Rattle.ferry_store.specs.Standing.{entries_of}
 use Rattle.ferry_store.specs.State.{Written}
 use Rattle.ferry_write.proofs.StandLemmas.{all-append}
-use Rattle.ferry_write.specs.Room.{behind}
 use Rattle.ferry_piece.specs.Puts.{Addition, AddsAll, AddsFirst, AreOf, ArePieces, AtBegin, AtEnd, Border, ComesBefore, ComesBeforeNext, Content, GoesOn}
 use Rattle.ferry_piece.specs.Puts.{IsAddedBehind, IsCheckpoint, IsFront, Kind, MayCome, Record, Stream, Within, addition, border_behind, border_of}
 use Rattle.ferry_piece.specs.Puts.{contents_in, manifests_committed, pending_from, pending_in, put_bytes, put_count, same_kind}

@@ -12,10 +12,10 @@ use std::marker::Model;
 const HEAD: usize = 43;
 
 /// How many pieces are foreseen at most.
-const MOST_PIECES: usize = 16;
+const MOST_PIECES: usize = 32;
 
 /// With how many bytes no more are foreseen.
-const MOST_BYTES: usize = 25_165_824;
+const MOST_BYTES: usize = 50_331_648;
 
 /// Pieces, each with 43 bytes before it, so that it becomes a blob where it stands.
 #[derive(Drop)]
@@ -155,7 +155,7 @@ impl Forecast {
 }
 
 /// Prepares the pieces that come next: of what a cutter has in hand and the contents of these chunks behind it, and then of each list alone, as far as `source`
-/// keeps the contents, up to sixteen pieces and about 24 MiB. Of one piece alone nothing is prepared, and nothing where memory is refused.
+/// keeps the contents, up to thirty-two pieces and about 48 MiB. Of one piece alone nothing is prepared, and nothing where memory is refused.
 pub(crate) fn foresee(
     alloc: Global,
     hand: &Cutter,

@@ -6,7 +6,7 @@ ghost use Rattle.ferry_blob.specs.Blob.{content_id};
 ghost use Rattle.ferry_base.specs.Limits.{content_limit};
 ghost use Rattle.ferry_piece.specs.Adding.{AddsOn, SparesStore, BeginsSegments};
 ghost use Rattle.ferry_piece.specs.Fault.{random_failed, shelf_failed};
-ghost use Rattle.ferry_piece.specs.Foreseen.{IsForeseen, pieces_in};
+ghost use Rattle.ferry_piece.specs.Foreseen.{IsForeseen, piece_of, pieces_in};
 ghost use Rattle.ferry_piece.specs.Gather.{KeepsRest, KeepsStanding, MakesRoom};
 ghost use Rattle.ferry_piece.specs.Piece.{HasRoom, IsPutBy};
 ghost use Rattle.ferry_piece.specs.Puts.{Addition, IsCheckpoint, Kind, addition, is_piece};
@@ -26,14 +26,15 @@ use ferry_disk::Depot;
 use ferry_mac::Keys;
 use ferry_store::{Added, Store};
 use std::alloc::{AllocError, Global};
+use std::cmp::min;
 use std::marker::Model;
 use std::mem;
 
 /// How many bytes of a blob stand before its content.
 const HEAD: usize = 43;
 
-/// Pieces that come next, prepared side by side for the keys and the mode of a store: what each is, its id, and a buffer that is a blob of it, or has it behind
-/// byte 43. Those in front of `next` have come.
+/// Pieces that come next, prepared side by side for the keys and the mode of a store: the id of each, and a buffer that is a blob of it, or has it behind byte
+/// 43. The first `blobs` are blobs, and have a copy among `pieces`. Those in front of `next` have come.
 #[derive(Drop)]
 pub(crate) struct Foreseen {
     alloc: Global,
@@ -49,14 +50,15 @@ pub(crate) struct Foreseen {
 impl Model for Foreseen {
     ghost use Rattle.std.specs.Prelude.{◌≤◌, ◌<◌, ℕ, length, nat_lt};
     ghost use Rattle.ferry_blob.specs.Batch.{bytes_at, id_at};
-    ghost use Rattle.ferry_piece.specs.Foreseen.{IsForeseen};
+    ghost use Rattle.ferry_piece.specs.Foreseen.{IsForeseen, piece_of};
 
     ghost Value = { Unit {0} };
 
     ghost view = { λ a. tt };
 
     ghost invariant = { λ a. (k : ℕ) → a.next ≤ k → k < length a.buffers.items
-        → IsForeseen a.keys a.mode (bytes_at a.pieces.items k) (id_at a.ids k) (nat_lt k a.blobs) (bytes_at a.buffers.items k) };
+        → IsForeseen a.keys a.mode (piece_of (nat_lt k a.blobs) (bytes_at a.pieces.items k) (bytes_at a.buffers.items k)) (id_at a.ids k) (nat_lt k a.blobs)
+        (bytes_at a.buffers.items k) };
 }
 
 /// A piece with its id, and with a buffer that is a blob of it, or has it behind byte 43.
@@ -77,8 +79,9 @@ impl Foreseen {
         requires few { length buffers.items ≤ 64 }
         requires sizes { (k : ℕ) → k < length buffers.items → HasSize (bytes_at buffers.items k) }
     {
-        let pieces = copies(alloc, &buffers)?;
+        let mut pieces = copies(alloc, &buffers)?;
         let (ids, blobs) = prepare_all(store, &mut buffers);
+        pieces.truncate(blobs);
         Ok(Foreseen {
             alloc,
             keys: *store.keys(),
@@ -96,18 +99,25 @@ impl Foreseen {
         self.next >= self.buffers.len()
     }
 
+    /// The ids of the pieces that come then.
+    fn later(&self) -> &[Id] {
+        let end = min(self.buffers.len(), self.ids.len());
+        &self.ids[min(self.next, end)..end]
+    }
+
     /// The piece that comes next, where it is this one and was prepared for this store.
     fn take(&mut self, store: &Store, piece: &[u8]) -> Option<Ready>
         ensures ready { IfSome result (λ ready. IsForeseen (repo_view store.now.repo).keys (mode_of (repo_view store.now.repo).config) piece.now
             ready.id ready.is_blob ready.buffer.items) }
     {
         let place = self.next;
-        if place >= self.buffers.len() || place >= self.pieces.len() || place >= self.ids.len() {
+        if place >= self.buffers.len() || place >= self.ids.len() {
             return None;
         }
+        let is_blob = place < self.blobs;
         if self.keys != *store.keys()
             || self.mode != store.mode()
-            || self.pieces[place].as_slice() != piece
+            || !is_piece(is_blob, &self.pieces, &self.buffers, place, piece)
         {
             return None;
         }
@@ -115,10 +125,29 @@ impl Foreseen {
         let buffer = mem::replace(&mut self.buffers[place], Vec::new(self.alloc));
         Some(Ready {
             id: self.ids[place],
-            is_blob: place < self.blobs,
+            is_blob,
             buffer,
         })
     }
+}
+
+/// Whether what was prepared at a place is of this piece: of its copy where the buffer is a blob, and else of what stands behind byte 43.
+fn is_piece(
+    is_blob: bool,
+    pieces: &[Vec<u8>],
+    buffers: &[Vec<u8>],
+    place: usize,
+    piece: &[u8],
+) -> bool
+    requires there { place < length buffers.now }
+    requires head { 43 ≤ length (bytes_at buffers.now place) }
+    ensures piece { IsTrue result → piece_of is_blob (bytes_at pieces.now place) (bytes_at buffers.now place) ≡ piece.now }
+{
+    if is_blob {
+        return place < pieces.len() && pieces[place].as_slice() == piece;
+    }
+    let content = &buffers[place].as_slice()[HEAD..];
+    content == piece
 }
 
 /// The pieces that are foreseen, where there are some. Contracts see nothing of them.
@@ -151,6 +180,14 @@ impl Ahead {
     /// Whether no piece is foreseen.
     pub(crate) fn is_none(&self) -> bool {
         self.foreseen.is_none()
+    }
+
+    /// The ids of the pieces that are foreseen.
+    fn later(&self) -> &[Id] {
+        match &self.foreseen {
+            Some(foreseen) => foreseen.later(),
+            None => &[],
+        }
     }
 
     /// The piece that comes next, where it is this one and was prepared for this store. Where it isn't, or was the last, none is foreseen then.
@@ -212,7 +249,8 @@ pub(crate) fn add_foreseen<D: Depot>(
                 is_blob,
                 mut buffer,
             } = ready;
-            add_buffer(store, depot, checkpoint, &id, is_blob, &mut buffer)
+            let later = ahead.later();
+            add_buffer(store, depot, checkpoint, &id, is_blob, &mut buffer, later)
         }
         None => add_piece(store, depot, checkpoint, piece),
     }
@@ -231,7 +269,8 @@ fn prepare_all(store: &Store, buffers: &mut [Vec<u8>]) -> ([Id; 64], usize)
     (ids, blobs)
 }
 
-/// Adds the piece of a buffer that was prepared, behind a checkpoint where so many are pending that none more may be put before.
+/// Adds the piece of a buffer that was prepared, behind a checkpoint where so many are pending that none more may be put before. Where it is opened, those of
+/// `later` that will be are opened beside it.
 fn add_buffer<D: Depot>(
     store: &mut Store,
     depot: &mut D,
@@ -239,6 +278,7 @@ fn add_buffer<D: Depot>(
     id: &Id,
     is_blob: bool,
     buffer: &mut [u8],
+    later: &[Id],
 ) -> Result<Added, CarryFault>
     requires prepared { IsPrepared (repo_view store.old.repo) id.now is_blob buffer.old }
     requires checkpoint { IsCheckpoint checkpoint }
@@ -259,7 +299,7 @@ fn add_buffer<D: Depot>(
     ensures drawn { IfErr result (λ fault. random_failed fault ≡ false) }
 {
     make_room_for(store, depot, checkpoint, id)?;
-    add_prepared(store, depot, id, is_blob, buffer)
+    add_prepared(store, depot, id, is_blob, buffer, later)
 }
 
 /// The same where the id of the piece is known.
@@ -302,6 +342,7 @@ fn add_prepared<D: Depot>(
     id: &Id,
     is_blob: bool,
     buffer: &mut [u8],
+    later: &[Id],
 ) -> Result<Added, CarryFault>
     requires prepared { IsPrepared (repo_view store.old.repo) id.now is_blob buffer.old }
     requires unspent { IsUnspent store.old }
@@ -323,6 +364,6 @@ fn add_prepared<D: Depot>(
     ensures target { IfErr result (λ fault. is_target fault ≡ true) }
     ensures drawn { IfErr result (λ fault. random_failed fault ≡ false) }
 {
-    let added = store.add_piece(depot, *id, is_blob, buffer)?;
+    let added = store.add_piece(depot, *id, is_blob, buffer, later)?;
     Ok(added)
 }

@@ -191,7 +191,7 @@ impl PieceWriter {
     }
 
     /// Prepares the pieces that come next side by side: of the bytes in hand and the contents of `chunks`, and then of each of `lists`, the
-    /// chunks of a content each, as far as `source` keeps the contents, up to sixteen pieces and about 24 MiB. Only time depends on it: each
+    /// chunks of a content each, as far as `source` keeps the contents, up to thirty-two pieces and about 48 MiB. Only time depends on it: each
     /// piece that comes is compared with the one that was foreseen, and where memory is refused nothing is prepared.
     pub fn foresee(
         &mut self,

@@ -22,12 +22,12 @@ use Rattle.ferry_plan.specs.declared.fault.PlanFault.{PlanFault}
 use Rattle.ferry_rechunk.specs.Cut.{cut}
 use Rattle.ferry_repo.proofs.ContentLemmas.{joined_apart, one_record, record_apart}
 use Rattle.ferry_repo.proofs.WalkLawLemmas.{one_comes, some_to_come}
-use Rattle.ferry_repo.specs.Archives.{HoldsNamed, HoldsRecord, RefusesNamed, archive_named}
+use Rattle.ferry_repo.specs.Archives.{HoldsNamed, HoldsRecord, RefusesNamed, archive_named, RefusesJoined}
 use Rattle.ferry_repo.specs.Cached.{Contents}
 use Rattle.ferry_repo.specs.Fault.{IsOfFiles}
 use Rattle.ferry_repo.specs.Opening.{FitsRepo, RepoState}
 use Rattle.ferry_repo.specs.Walk.{Comes, IsToCome, LeadsOn, WalkState, begin_walk}
-use Rattle.ferry_repo.specs.Whole.{RefusesJoined, RefusesWhole, WholeItem, WholesCome}
+use Rattle.ferry_repo.specs.Whole.{RefusesWhole, WholeItem, WholesCome}
 use Rattle.ferry_repo.specs.declared.fault.RepoFault.{RepoFault}
 
 -- ---- an archive

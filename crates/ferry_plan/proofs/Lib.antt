@@ -8,3 +8,4 @@ pub mod AlikeLemmas
 pub mod TransferLemmas
 pub mod LawLemmas
 pub mod AnswerLemmas
+pub mod HeldLemmas

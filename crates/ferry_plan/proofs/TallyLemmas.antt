@@ -135,6 +135,23 @@ knows_noted keys log known known_now kind content new added lacks is updates k =
       (k.all other among apart_other missing_other)
   by other apart_other missing_other (inr same) = subst (λ (key : List ℕ). contains key_cmp known_now key ≡ true) same updates.1
 
+-- a content whose id is known isn't put
+pub knows_known : (keys : Keys) (log : LogState) (known : BTreeSet (List ℕ)) (kind : Kind) (content : List ℕ) (added : List Addition)
+    → contains key_cmp known (content_id keys content) ≡ true → Knows keys log known added
+    → Knows keys log known (added ++ addition kind content false ∷ [])
+knows_known keys log known kind content added had k = record {
+  fresh = puts_then keys log [] added one k.fresh
+      (λ put. absurd (let never : ⊥ = cc in never), λ fresh. absurd (fresh.first (k.only (content_id keys content) had)));
+  only = λ id is. among_more keys added one id (k.only id is);
+  all = λ id among apart missing. by id apart missing (among_split keys added one id among);
+} where
+  one : Addition
+  one = addition kind content false
+
+  by : (id : List ℕ) → id ≢ zero_id → IsMissing log id → IsAmong (ids_of keys added) id ⊎ (content_id keys content ≡ id) → contains key_cmp known id ≡ true
+  by id apart missing (inl among) = k.all id among apart missing
+  by id apart missing (inr same) = subst (λ (key : List ℕ). contains key_cmp known key ≡ true) same had
+
 -- of nothing nothing is known
 pub knows_nothing : (keys : Keys) (log : LogState) (known : BTreeSet (List ℕ)) → known.keys ≡ [] → Knows keys log known []
 knows_nothing keys log known none = record {

@@ -13,11 +13,11 @@ use Rattle.ferry_piece.specs.Puts.{Addition, ArePieces, Content}
 use Rattle.ferry_plan.specs.Plan.{HasNoLong, IsEqual, PlansName, source_of}
 use Rattle.ferry_plan.specs.declared.fault.PlanFault.{PlanFault}
 use Rattle.ferry_plan.specs.declared.fault.PlanFault.TheVariants.{Source, Pieces, Memory}
-use Rattle.ferry_repo.specs.Archives.{archive_named}
+use Rattle.ferry_repo.specs.Archives.{archive_named, RefusesJoined}
 use Rattle.ferry_repo.specs.Fault.{IsOfFiles}
 use Rattle.ferry_repo.specs.Opening.{RepoState}
 use Rattle.ferry_repo.specs.Walk.{IsToCome, LeadsOn, WalkState}
-use Rattle.ferry_repo.specs.Whole.{HoldsItem, RefusesJoined, RefusesWhole, WholeItem, WholesCome}
+use Rattle.ferry_repo.specs.Whole.{HoldsItem, RefusesWhole, WholeItem, WholesCome}
 use Rattle.ferry_repo.specs.declared.fault.RepoFault.{RepoFault}
 use Rattle.ferry_repo.specs.declared.fault.RepoFault.TheVariants as Repos
 

@@ -1,19 +1,19 @@
 //! The content of an item, cut into pieces that are counted.
-ghost use Rattle.std.specs.Prelude.{◌≡◌, ◌≤◌, ◌<◌, ◌^◌, ◌-◌, List, Some, None, false, length, min, IfErr, IfOk, IfSome, OnOk};
+ghost use Rattle.std.specs.Prelude.{◌≡◌, ◌≤◌, ◌<◌, ◌^◌, ◌-◌, List, Option, Some, None, false, length, min, IfErr, IfOk, IfSome, IsTrue, OnOk};
+ghost use Rattle.std.specs.List.{AllByRecursion};
 ghost use Rattle.ferry_carry.specs.Copying.{CopiesContent, WritesContent, WritesContents, writer_state};
 ghost use Rattle.ferry_piece.specs.Puts.{Addition, AreOf, Content, contents_in};
 ghost use Rattle.ferry_carry.specs.Refusals.{IsTooLong, total_size};
-ghost use Rattle.ferry_disk.specs.Device.{HasCause, KeepsTold, told_files};
+ghost use Rattle.ferry_disk.specs.Device.{HasCause, KeepsTold, Told, told_files};
 ghost use Rattle.ferry_plan.specs.Fault.{shelf_failed, target_failed};
 ghost use Rattle.ferry_plan.specs.Steps.{RefusesBy};
-ghost use Rattle.ferry_plan.specs.Tally.{IsReady, Takes, TalliesOn};
-ghost use Rattle.ferry_repo.specs.Archives.{HoldsContent, RefusesContent};
+ghost use Rattle.ferry_plan.specs.Tally.{HeldContent, IsHeld, IsReady, Takes, TalliesOn};
+ghost use Rattle.ferry_repo.specs.Archives.{HoldsContent, RefusesContent, RefusesJoined};
 ghost use Rattle.ferry_repo.specs.Fault.{IsOfFiles, repo_failed};
 ghost use Rattle.ferry_repo.specs.Opening.{FitsRepo, cached_in, repo_view};
-ghost use Rattle.ferry_repo.specs.Whole.{RefusesJoined};
 
 use crate::fault::PlanFault;
-use crate::pieces::Pieces;
+use crate::pieces::{Pieces, is_lacking};
 use crate::tally::Tally;
 use ferry_base::Id;
 use ferry_disk::Shelf;
@@ -62,8 +62,8 @@ pub(crate) fn take_chunks<S: Shelf>(
     }
 }
 
-/// Counts the pieces of the content that these chunks are.
-#[tactic(auto, using(crate::proofs::FaultLemmas::conversions))]
+/// Counts the pieces of the content that these chunks are. One that was counted before, whose pieces the target has or would have by what
+/// was counted, isn't read again, and adds nothing.
 fn take_content<S: Shelf>(
     walk: &Walk,
     source: &mut Repo,
@@ -95,6 +95,94 @@ fn take_content<S: Shelf>(
     if total_size(chunks) > MOST_PIECES * tally.block as u128 {
         return Err(PlanFault::Pieces);
     }
+    if let Some(copied) = held_content(source, target, chunks, tally) {
+        return Ok(copied);
+    }
+    match cut_content(walk, source, shelf, target, chunks, tally) {
+        Ok(copied) => {
+            source.note(target.keys(), tally.block, chunks, copied.as_slice());
+            Ok(copied)
+        }
+        Err(fault) => Err(fault),
+    }
+}
+
+/// The chunks that the target would have of a content of these chunks, where it was cut before and each of its pieces is held.
+fn held_content(
+    source: &Repo,
+    target: &Repo,
+    chunks: &[ChunkRef],
+    tally: &Tally,
+) -> Option<ChunkRefs>
+    ensures held { IfSome result (λ copied. (told : Option Told)
+        → IfSome told (λ t. FitsRepo (told_files t) (repo_view source.now) (cached_in source.now))
+        → HeldContent told (repo_view source.now) (repo_view target.now) tally.now chunks.now copied) }
+{
+    let pieces = source.noted(target.keys(), tally.block, chunks)?;
+    if pieces.len() > MOST_PIECES as usize || !are_held(&tally.known, target, pieces) {
+        return None;
+    }
+    match Vec::from_slice(tally.alloc, pieces) {
+        Ok(copied) => Some(ChunkRefs::new(copied)),
+        Err(_) => None,
+    }
+}
+
+/// Whether the target has each of these pieces, or would have it by what was counted.
+fn are_held(known: &BTreeSet<Id>, target: &Repo, pieces: &[ChunkRef]) -> bool
+    ensures held { IsTrue result → AllByRecursion (λ piece. IsHeld (repo_view target.now).log known.now piece.id) pieces.now }
+{
+    let mut rest = pieces;
+    while let [piece, behind @ ..] = rest {
+        if !is_held(known, target, &piece.id) {
+            return false;
+        }
+        rest = behind;
+    }
+    true
+}
+
+/// Whether the target has a chunk of this id, or would have it by what was counted.
+fn is_held(known: &BTreeSet<Id>, target: &Repo, id: &Id) -> bool
+    ensures held { IsTrue result → IsHeld (repo_view target.now).log known.now id.now }
+{
+    if is_lacking(target, id) {
+        return known.contains(id);
+    }
+    true
+}
+
+/// Reads the content that these chunks are, cuts it, and counts its pieces.
+#[tactic(auto, using(crate::proofs::FaultLemmas::conversions))]
+fn cut_content<S: Shelf>(
+    walk: &Walk,
+    source: &mut Repo,
+    shelf: &mut S,
+    target: &Repo,
+    chunks: &[ChunkRef],
+    tally: &mut Tally,
+) -> Result<ChunkRefs, PlanFault>
+    requires short { IsTooLong tally.old.block (Some chunks.now) → ⊥ }
+    requires ready { IsReady tally.old }
+    requires source_fits { IfSome (S.told shelf.old) (λ t. FitsRepo (told_files t) (repo_view source.old) (cached_in source.old)) }
+    ensures taken { IfOk result (λ copied. (more : List Addition)
+        × (TalliesOn (repo_view target.now).keys (repo_view target.now).log tally.old more tally.new
+        × (AreOf Content more × CopiesContent (S.told shelf.old) (repo_view source.old) tally.old.block (repo_view target.now).keys (Some chunks.now)
+        (contents_in more) (Some copied)))) }
+    ensures short { OnOk result (IsTooLong tally.old.block (Some chunks.now) → ⊥) }
+    ensures refused { IfErr result (RefusesBy (S.told shelf.old)
+        (λ there fault. RefusesJoined there (repo_view source.old).log (repo_view source.old).keys (Some chunks.now) fault
+        × (IsTooLong tally.old.block (Some chunks.now) → ⊥))
+        (λ there. IsTooLong tally.old.block (Some chunks.now))) }
+    ensures ready { OnOk result (IsReady tally.new) }
+    ensures stream { OnOk result (tally.new.stream ≡ tally.old.stream) }
+    ensures block { OnOk result (tally.new.block ≡ tally.old.block) }
+    ensures source_fits { IfSome (S.told shelf.new) (λ t. FitsRepo (told_files t) (repo_view source.new) (cached_in source.new)) }
+    ensures kept { repo_view source.new ≡ repo_view source.old }
+    ensures same { KeepsTold shelf_failed (S.told shelf.old) (S.told shelf.new) result }
+    ensures cause { HasCause shelf_failed (S.faults shelf.old) (S.faults shelf.new) result }
+    ensures still { IfErr result (λ fault. target_failed fault ≡ false) }
+{
     write_contents(
         &mut tally.contents,
         &mut tally.known,

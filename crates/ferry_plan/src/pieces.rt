@@ -54,7 +54,7 @@ fn note(known: &mut BTreeSet<Id>, target: &Repo, piece: &[u8]) -> Result<Noted, 
 }
 
 /// Whether the target lacks a chunk of this id.
-fn is_lacking(target: &Repo, id: &Id) -> bool
+pub(crate) fn is_lacking(target: &Repo, id: &Id) -> bool
     ensures lacks { IsTrue result ↔ Lacks (repo_view target.now).log id.now }
 {
     *id != ZERO_ID && target.log().find(id).is_none()

@@ -3,6 +3,7 @@ ghost use Rattle.std.specs.Prelude.{◌≡◌, ◌≤◌, ◌⊎◌, ◌↔◌, 
 ghost use Rattle.ferry_carry.specs.Chosen.{IsMissingName};
 ghost use Rattle.ferry_piece.specs.Gather.{IsAmong};
 ghost use Rattle.ferry_piece.specs.Puts.{Addition};
+ghost use Rattle.ferry_compare.specs.Matched.{AreMatched};
 ghost use Rattle.ferry_disk.specs.Device.{HasCause, KeepsTold, told_files};
 ghost use Rattle.ferry_plan.specs.Fault.{shelf_failed, target_failed};
 ghost use Rattle.ferry_plan.specs.Plan.{Plans, PlansAll, RefusesBehind, RefusesName, RefusesPlan, WhereBoth};
@@ -18,6 +19,7 @@ use crate::present::{compare_archive, copy_name, is_among};
 use crate::tally::Tally;
 use ferry_base::Bytes;
 use ferry_carry::missing_name;
+use ferry_compare::Matches;
 use ferry_disk::Shelf;
 use ferry_repo::Repo;
 use std::alloc::Global;
@@ -70,7 +72,17 @@ pub fn plan<S: Shelf, T: Shelf>(
 {
     find_names(alloc, source, names)?;
     let mut tally = Tally::new(alloc, block)?;
-    plan_names(alloc, source, shelf, target, other, names, &mut tally)?;
+    let mut matches = Matches::new(alloc);
+    plan_names(
+        alloc,
+        source,
+        shelf,
+        target,
+        other,
+        names,
+        &mut tally,
+        &mut matches,
+    )?;
     Ok(tally.planned())
 }
 
@@ -97,12 +109,14 @@ fn plan_names<S: Shelf, T: Shelf>(
     other: &mut T,
     names: &[Bytes],
     tally: &mut Tally,
+    matches: &mut Matches,
 ) -> Result<(), PlanFault>
     requires ready { IsReady tally.old }
     requires begun { tally.old.stream.cutter.piece ≡ [] }
     requires named { (name : List ℕ) → IsAmong names.now name → IsSome (archive_named name (repo_view source.old).manifest.archives) }
     requires source_fits { IfSome (S.told shelf.old) (λ t. FitsRepo (told_files t) (repo_view source.old) (cached_in source.old)) }
     requires target_fits { IfSome (T.told other.old) (λ t. FitsRepo (told_files t) (repo_view target.old) (cached_in target.old)) }
+    requires matched { AreMatched (S.told shelf.old) (repo_view source.old) (T.told other.old) (repo_view target.old) matches.old }
     ensures planned { OnOk result ((added : List Addition)
         × (TalliesOn (repo_view target.old).keys (repo_view target.old).log tally.old added tally.new
         × WhereBoth (S.told shelf.old) (T.told other.old) (λ there files.
@@ -123,7 +137,9 @@ fn plan_names<S: Shelf, T: Shelf>(
     for place in 0..names.len() {
         let before = &names[..place];
         let name = names[place].as_slice();
-        plan_name(alloc, source, shelf, target, other, before, name, tally)?;
+        plan_name(
+            alloc, source, shelf, target, other, before, name, tally, matches,
+        )?;
     }
     Ok(())
 }
@@ -138,12 +154,14 @@ fn plan_name<S: Shelf, T: Shelf>(
     before: &[Bytes],
     name: &[u8],
     tally: &mut Tally,
+    matches: &mut Matches,
 ) -> Result<(), PlanFault>
     requires ready { IsReady tally.old }
     requires begun { tally.old.stream.cutter.piece ≡ [] }
     requires named { IsSome (archive_named name.now (repo_view source.old).manifest.archives) }
     requires source_fits { IfSome (S.told shelf.old) (λ t. FitsRepo (told_files t) (repo_view source.old) (cached_in source.old)) }
     requires target_fits { IfSome (T.told other.old) (λ t. FitsRepo (told_files t) (repo_view target.old) (cached_in target.old)) }
+    requires matched { AreMatched (S.told shelf.old) (repo_view source.old) (T.told other.old) (repo_view target.old) matches.old }
     ensures planned { OnOk result ((one : List Addition)
         × (TalliesOn (repo_view target.old).keys (repo_view target.old).log tally.old one tally.new
         × WhereBoth (S.told shelf.old) (T.told other.old) (λ there files.
@@ -151,6 +169,7 @@ fn plan_name<S: Shelf, T: Shelf>(
     ensures refused { IfErr result (RefusesName (S.told shelf.old) (repo_view source.old) tally.old.block (T.told other.old) (repo_view target.old)
         name.now) }
     ensures unread { archive_named name.now (repo_view target.old).manifest.archives ≡ None → other.new ≡ other.old }
+    ensures matched { OnOk result (AreMatched (S.told shelf.new) (repo_view source.new) (T.told other.new) (repo_view target.new) matches.new) }
     ensures ready { OnOk result (IsReady tally.new) }
     ensures begun { OnOk result (tally.new.stream.cutter.piece ≡ []) }
     ensures block { OnOk result (tally.new.block ≡ tally.old.block) }
@@ -164,7 +183,7 @@ fn plan_name<S: Shelf, T: Shelf>(
     ensures target_cause { HasCause target_failed (T.faults other.old) (T.faults other.new) result }
 {
     if has_archive(target, name) {
-        return compare_archive(alloc, source, shelf, target, other, name);
+        return compare_archive(alloc, source, shelf, target, other, name, matches);
     }
     if is_among(before, name) {
         return Ok(());

@@ -3,6 +3,7 @@ ghost use Rattle.std.specs.Prelude.{◌≡◌, ◌⊎◌, ◌↔◌, ℕ, Ok, tr
 ghost use Rattle.ferry_piece.specs.Gather.{IsAmong};
 ghost use Rattle.ferry_compare.specs.Compare.{AreEqual, Differ, FitsTold, comparison_view, seen};
 ghost use Rattle.ferry_compare.specs.Fault.{RefusesTarget, source_failed, target_failed as other_failed};
+ghost use Rattle.ferry_compare.specs.Matched.{AreMatched};
 ghost use Rattle.ferry_compare.specs.Steps.{RefusesSource};
 ghost use Rattle.ferry_disk.specs.Device.{HasCause, KeepsTold, told_files};
 ghost use Rattle.ferry_plan.specs.Fault.{shelf_failed, target_failed};
@@ -13,10 +14,11 @@ ghost use Rattle.ferry_repo.specs.Opening.{FitsRepo, cached_in, repo_view};
 
 use crate::fault::PlanFault;
 use ferry_base::Bytes;
-use ferry_compare::{CompareFault, Compared, Comparison};
+use ferry_compare::{CompareFault, Compared, Comparison, Matches};
 use ferry_disk::Shelf;
 use ferry_repo::Repo;
 use std::alloc::{AllocError, Global};
+use std::mem;
 
 /// Whether a name is one of these.
 pub(crate) fn is_among(names: &[Bytes], name: &[u8]) -> bool
@@ -30,7 +32,8 @@ pub(crate) fn is_among(names: &[Bytes], name: &[u8]) -> bool
     false
 }
 
-/// Compares the archives that the source and the target have under a name; another one is `Taken`.
+/// Compares the archives that the source and the target have under a name; another one is `Taken`. Contents that were found to be the same aren't read
+/// again.
 #[tactic(auto, using(crate::proofs::FaultLemmas::conversions))]
 pub(crate) fn compare_archive<S: Shelf, T: Shelf>(
     alloc: Global,
@@ -39,11 +42,14 @@ pub(crate) fn compare_archive<S: Shelf, T: Shelf>(
     target: &mut Repo,
     other: &mut T,
     name: &[u8],
+    matches: &mut Matches,
 ) -> Result<(), PlanFault>
     requires source_fits { IfSome (S.told shelf.old) (λ t. FitsRepo (told_files t) (repo_view source.old) (cached_in source.old)) }
     requires target_fits { IfSome (T.told other.old) (λ t. FitsRepo (told_files t) (repo_view target.old) (cached_in target.old)) }
     requires named { IsSome (archive_named name.now (repo_view source.old).manifest.archives) }
     requires target_named { IsSome (archive_named name.now (repo_view target.old).manifest.archives) }
+    requires matched { AreMatched (S.told shelf.old) (repo_view source.old) (T.told other.old) (repo_view target.old) matches.old }
+    ensures matched { OnOk result (AreMatched (S.told shelf.new) (repo_view source.new) (T.told other.new) (repo_view target.new) matches.new) }
     ensures equal { OnOk result (WhereBoth (S.told shelf.old) (T.told other.old) (λ there files.
         IsEqual there (repo_view source.old) files (repo_view target.old) name.now)) }
     ensures refused { IfErr result (λ fault. (block : ℕ)
@@ -58,7 +64,9 @@ pub(crate) fn compare_archive<S: Shelf, T: Shelf>(
     ensures target_cause { HasCause target_failed (T.faults other.old) (T.faults other.new) result }
 {
     let mut comparison = Comparison::begin(alloc, source, shelf, target, other, name)?;
+    comparison.resume(mem::replace(matches, Matches::new(alloc)));
     let equal = is_equal(source, shelf, target, other, &mut comparison)?;
+    drop(mem::replace(matches, comparison.into_matches()));
     if equal {
         return Ok(());
     }
@@ -81,6 +89,8 @@ fn is_equal<S: Shelf, T: Shelf>(
         (comparison_view comparison.old).name }
     ensures differs { result ≡ Ok false → Differ (S.told shelf.old) (repo_view source.old) (T.told other.old) (repo_view target.old)
         (comparison_view comparison.old).name }
+    ensures matched { OnOk result (AreMatched (S.told shelf.new) (repo_view source.new) (T.told other.new) (repo_view target.new)
+        (comparison_view comparison.new).matched) }
     ensures refused_source { IfErr result (RefusesSource (S.told shelf.old) (repo_view source.old) (comparison_view comparison.old).name) }
     ensures refused_target { IfErr result RefusesTarget }
     ensures source_fits { IfSome (S.told shelf.new) (λ t. FitsRepo (told_files t) (repo_view source.new) (cached_in source.new)) }

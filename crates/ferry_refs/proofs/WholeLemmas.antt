@@ -15,11 +15,11 @@ use Rattle.ferry_log.specs.Live.{key_cmp}
 use Rattle.ferry_log.specs.State.{LogState}
 use Rattle.ferry_mac.specs.declared.keys.Keys.{Keys}
 use Rattle.ferry_manifest.specs.declared.manifest.ArchiveRef.{ArchiveRef}
-use Rattle.ferry_repo.specs.Archives.{archive_named}
+use Rattle.ferry_repo.specs.Archives.{archive_named, ContentsCome, HoldsJoined}
 use Rattle.ferry_repo.specs.Objects.{HoldsChunk}
 use Rattle.ferry_repo.specs.Opening.{RepoState}
 use Rattle.ferry_repo.specs.Walk.{HoldChunks}
-use Rattle.ferry_repo.specs.Whole.{ContentsCome, HoldsJoined, IsWhole, WholeArchive, WholeItem, WholesCome}
+use Rattle.ferry_repo.specs.Whole.{IsWhole, WholeArchive, WholeItem, WholesCome}
 use Rattle.ferry_refs.specs.Refs.{occurrences}
 use Rattle.ferry_refs.proofs.CountLemmas.{occurrences-append, same_tests}
 

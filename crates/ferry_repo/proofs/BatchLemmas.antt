@@ -18,7 +18,7 @@ use Rattle.ferry_log.specs.State.{LogState, FitsFiles, place_in}
 use Rattle.ferry_log.specs.declared.place.Place.{Place}
 use Rattle.ferry_mac.specs.declared.keys.Keys.{Keys}
 use Rattle.ferry_repo.specs.Batch.{IsBatch, HasBlobs, HasChunkBlob}
-use Rattle.ferry_repo.specs.Cached.{Contents, used}
+use Rattle.ferry_repo.specs.Cached.{Contents, Opened, used}
 use Rattle.ferry_repo.specs.Objects.{HoldsChunk, HasBlob}
 use Rattle.ferry_repo.specs.Opening.{RepoState, FitsRepo}
 use Rattle.ferry_repo.proofs.CacheLemmas.{used_hold}
@@ -106,7 +106,7 @@ opened_at answers k d ok low is true_is = ap is_ok (sym (answer_at-read answers 
 
 -- what is kept holds once the content of one more opened blob was used
 pub kept_opened : (files : Files) (log : LogState) (keys : Keys) (answers : List (Result (Unit {0}) BlobFault)) (ids : List (List ℕ))
-    (all : List (Vec ℕ Global)) (place : ℕ) (id content : List ℕ) (before after : Contents)
+    (all : List (Vec ℕ Global)) (place : ℕ) (id content : List ℕ) (before after : Opened)
     → ((k : ℕ) → k < length all → IsOk (answer_at answers k) → HoldsChunk files log keys (id_at ids k) (drop 43 (bytes_at all k)))
     → place < length all → IsOk (answer_at answers place) → id ≡ id_at ids place → content ≡ drop 43 (bytes_at all place) → after ≡ used id content before
     → AllByRecursion (λ c. HoldsChunk files log keys c.0 c.1) before → AllByRecursion (λ c. HoldsChunk files log keys c.0 c.1) after
@@ -150,22 +150,22 @@ contents_hold files log keys ids before after answers opened size has k low ok =
 -- ---- what fits
 
 -- a repository fits what a later call is told, where what is kept holds whenever the blobs that were read are there
-pub ahead_fits : (told later : Option Told) (repo : RepoState) (ids : List (List ℕ)) (blobs : List (Vec ℕ Global)) (before after : Contents)
+pub ahead_fits : (told later : Option Told) (repo : RepoState) (ids : List (List ℕ)) (blobs : List (Vec ℕ Global)) (before : Contents) (after : Opened)
     → heard later ≡ heard told
-    → ((files : Files) (log : LogState) → HasBlobs files log ids blobs → AllByRecursion (λ c. HoldsChunk files log repo.keys c.0 c.1) before
+    → ((files : Files) (log : LogState) → HasBlobs files log ids blobs → AllByRecursion (λ c. HoldsChunk files log repo.keys c.0 c.1) before.opened
     → AllByRecursion (λ c. HoldsChunk files log repo.keys c.0 c.1) after)
     → IfSome told (λ t. FitsRepo (told_files t) repo before) → IfSome told (λ t. HasBlobs (told_files t) repo.log ids blobs)
-    → IfSome later (λ t. FitsRepo (told_files t) repo after)
+    → IfSome later (λ t. FitsRepo (told_files t) repo (record before { opened = after }))
 ahead_fits told later repo ids blobs before after same holds fits has =
-    told_same told later (λ f. FitsRepo f repo after) same
-    (told_with told told (λ f. FitsRepo f repo before) (λ f. HasBlobs f repo.log ids blobs) (λ f. FitsRepo f repo after) refl
-    (λ f fit here. record { log = fit.log; cached = holds f repo.log here fit.cached }) fits has)
+    told_same told later (λ f. FitsRepo f repo (record before { opened = after })) same
+    (told_with told told (λ f. FitsRepo f repo before) (λ f. HasBlobs f repo.log ids blobs) (λ f. FitsRepo f repo (record before { opened = after })) refl
+    (λ f fit here. record { log = fit.log; cached = holds f repo.log here fit.cached; noted = fit.noted }) fits has)
 
 -- it fits where some of what was kept is let go
-pub room_fits : (told : Option Told) (repo : RepoState) (before after : Contents)
-    → ((files : Files) (log : LogState) (keys : Keys) → AllByRecursion (λ c. HoldsChunk files log keys c.0 c.1) before
+pub room_fits : (told : Option Told) (repo : RepoState) (before : Contents) (after : Opened)
+    → ((files : Files) (log : LogState) (keys : Keys) → AllByRecursion (λ c. HoldsChunk files log keys c.0 c.1) before.opened
     → AllByRecursion (λ c. HoldsChunk files log keys c.0 c.1) after)
-    → IfSome told (λ t. FitsRepo (told_files t) repo before) → IfSome told (λ t. FitsRepo (told_files t) repo after)
+    → IfSome told (λ t. FitsRepo (told_files t) repo before) → IfSome told (λ t. FitsRepo (told_files t) repo (record before { opened = after }))
 room_fits told repo before after holds fits =
-    told_then told (λ f. FitsRepo f repo before) (λ f. FitsRepo f repo after)
-    (λ f fit. record { log = fit.log; cached = holds f repo.log repo.keys fit.cached }) fits
+    told_then told (λ f. FitsRepo f repo before) (λ f. FitsRepo f repo (record before { opened = after }))
+    (λ f fit. record { log = fit.log; cached = holds f repo.log repo.keys fit.cached; noted = fit.noted }) fits

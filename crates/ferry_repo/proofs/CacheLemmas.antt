@@ -12,38 +12,38 @@ use Rattle.ferry_disk.proofs.DeviceLemmas.{told_same, told_with}
 use Rattle.ferry_log.specs.State.{LogState}
 use Rattle.ferry_mac.specs.declared.keys.Keys.{Keys}
 use Rattle.lru.specs.LruCache.{LruCache, IsValid, lru_cache, promoted, put_entries}
-use Rattle.ferry_repo.specs.Cached.{Contents, content_in, without, used}
+use Rattle.ferry_repo.specs.Cached.{Contents, Opened, content_in, without, used}
 use Rattle.ferry_repo.specs.Objects.{HoldsChunk}
 use Rattle.ferry_repo.specs.Opening.{RepoState, FitsRepo}
 
 -- ---- without
 
-without_none : (id : List ℕ) (cs : Contents) → AllByRecursion (λ k. bytes_eq id k ≡ false) (keys_of cs) → without id cs ≡ cs
+without_none : (id : List ℕ) (cs : Opened) → AllByRecursion (λ k. bytes_eq id k ≡ false) (keys_of cs) → without id cs ≡ cs
 unfolding without
 without_none id [] none = refl
-without_none id (c ∷ cs) none = rw none.0 (ap (λ (l : Contents). c ∷ l) (without_none id cs none.1))
+without_none id (c ∷ cs) none = rw none.0 (ap (λ (l : Opened). c ∷ l) (without_none id cs none.1))
 
 -- of distinct ids at most one goes
-without_entry : (id : List ℕ) (cs : Contents) → IsDistinct bytes_eq (keys_of cs) → without id cs ≡ remove_entry (bytes_eq id) cs
+without_entry : (id : List ℕ) (cs : Opened) → IsDistinct bytes_eq (keys_of cs) → without id cs ≡ remove_entry (bytes_eq id) cs
 unfolding without IsDistinct
 without_entry id [] distinct = refl
 without_entry id (c ∷ cs) distinct = (elim (bytes_eq id c.0) as (λ y. bytes_eq id c.0 ≡ y → without id (c ∷ cs) ≡ remove_entry (bytes_eq id) (c ∷ cs)) [
   | true ↦ λ t. rw t (without_none id cs
       (subst (λ (k : List ℕ). AllByRecursion (λ j. bytes_eq k j ≡ false) (keys_of cs)) (sym ((bytes_eq-Decides id c.0).0 t)) distinct.0))
-  | false ↦ λ t. rw t (ap (λ (l : Contents). c ∷ l) (without_entry id cs distinct.1))
+  | false ↦ λ t. rw t (ap (λ (l : Opened). c ∷ l) (without_entry id cs distinct.1))
 ]) refl
 
-without_absent : (id : List ℕ) (cs : Contents) → content_in id cs ≡ None → without id cs ≡ cs
+without_absent : (id : List ℕ) (cs : Opened) → content_in id cs ≡ None → without id cs ≡ cs
 unfolding without
 without_absent id [] none = refl
 without_absent id (c ∷ cs) none = (elim (bytes_eq id c.0) as (λ y. bytes_eq id c.0 ≡ y → without id (c ∷ cs) ≡ c ∷ cs) [
   | true ↦ λ t. let some : Some c.1 ≡ None = rw t at none in absurd (let bad : ⊥ = cc in bad)
-  | false ↦ λ t. rw t (ap (λ (l : Contents). c ∷ l) (without_absent id cs (rw t at none)))
+  | false ↦ λ t. rw t (ap (λ (l : Opened). c ∷ l) (without_absent id cs (rw t at none)))
 ]) refl
 
 -- ---- the map of the contents
 
-entry_none : (id : List ℕ) (cs : Contents) → content_in id cs ≡ None → lookup_entry (bytes_eq id) cs ≡ None
+entry_none : (id : List ℕ) (cs : Opened) → content_in id cs ≡ None → lookup_entry (bytes_eq id) cs ≡ None
 entry_none id [] none = refl
 entry_none id (c ∷ cs) none = (elim (bytes_eq id c.0) as (λ y. bytes_eq id c.0 ≡ y → lookup_entry (bytes_eq id) (c ∷ cs) ≡ None) [
   | true ↦ λ t. let some : Some c.1 ≡ None = rw t at none in absurd (let bad : ⊥ = cc in bad)
@@ -51,7 +51,7 @@ entry_none id (c ∷ cs) none = (elim (bytes_eq id c.0) as (λ y. bytes_eq id c.
 ]) refl
 
 -- the entry of an id, and how many there are without it
-entry_some : (id content : List ℕ) (cs : Contents) → content_in id cs ≡ Some content
+entry_some : (id content : List ℕ) (cs : Opened) → content_in id cs ≡ Some content
     → (lookup_entry (bytes_eq id) cs ≡ Some (id, content)) × (length (remove_entry (bytes_eq id) cs) + 1 ≡ length cs)
 entry_some id content [] some = absurd (let bad : ⊥ = cc in bad)
 entry_some id content (c ∷ cs) some = (elim (bytes_eq id c.0) as (λ y. bytes_eq id c.0 ≡ y
@@ -67,20 +67,20 @@ entry_some id content (c ∷ cs) some = (elim (bytes_eq id c.0) as (λ y. bytes_
     ]) refl
 
 -- what was used stands in front
-pub promoted_used : (id content : List ℕ) (cs : Contents) → IsDistinct bytes_eq (keys_of cs) → length cs ≤ 16 → content_in id cs ≡ Some content
+pub promoted_used : (id content : List ℕ) (cs : Opened) → IsDistinct bytes_eq (keys_of cs) → length cs ≤ 28 → content_in id cs ≡ Some content
     → promoted (bytes_eq id) cs ≡ used id content cs
 unfolding used
 promoted_used id content cs distinct few some =
     let entry = entry_some id content cs some in
     let rest = remove_entry (bytes_eq id) cs in
-    rw (entry.0, without_entry id cs distinct) (sym (take_all 16 ((id, content) ∷ rest) (omega (arith, entry.1, few))))
+    rw (entry.0, without_entry id cs distinct) (sym (take_all 28 ((id, content) ∷ rest) (omega (arith, entry.1, few))))
 
 -- where it isn't there nothing changes
-pub promoted_none : (id : List ℕ) (cs : Contents) → content_in id cs ≡ None → promoted (bytes_eq id) cs ≡ cs
+pub promoted_none : (id : List ℕ) (cs : Opened) → content_in id cs ≡ None → promoted (bytes_eq id) cs ≡ cs
 promoted_none id cs none = rw (entry_none id cs none) refl
 
--- a content that wasn't there pushes the last out of sixteen
-pub put_used : (id content : List ℕ) (cs : Contents) → content_in id cs ≡ None → put_entries bytes_eq (lru_cache cs 16) id content ≡ used id content cs
+-- a content that wasn't there pushes the last out of twenty-eight
+pub put_used : (id content : List ℕ) (cs : Opened) → content_in id cs ≡ None → put_entries bytes_eq (lru_cache cs 28) id content ≡ used id content cs
 unfolding used
 put_used id content cs none = rw (entry_none id cs none, without_absent id cs none) refl
 
@@ -94,7 +94,7 @@ found_none : (o : Option (List ℕ)) → is_some o ≡ false → o ≡ None
 found_none None none = refl
 found_none (Some kept) none = absurd (let bad : ⊥ = cc in bad)
 
-pub promote_used : (id content : List ℕ) (cache after : LruCache (List ℕ) (List ℕ)) (found : Bool) → IsValid bytes_eq cache → cache.cap ≡ 16
+pub promote_used : (id content : List ℕ) (cache after : LruCache (List ℕ) (List ℕ)) (found : Bool) → IsValid bytes_eq cache → cache.cap ≡ 28
     → IfSome (content_in id cache.entries) (λ kept. kept ≡ content) → found ≡ is_some (content_in id cache.entries) → found ≡ true
     → after ≡ lru_cache (promoted (bytes_eq id) cache.entries) cache.cap → after.entries ≡ used id content cache.entries
 promote_used id content cache after found valid cap same is t made =
@@ -107,22 +107,22 @@ pub promote_still : (id : List ℕ) (cache after : LruCache (List ℕ) (List ℕ
 promote_still id cache after found is t made =
     ap (λ (x : LruCache (List ℕ) (List ℕ)). x.entries) made ∙ promoted_none id cache.entries (found_none (content_in id cache.entries) (sym is ∙ t))
 
-pub put_all : (id content value : List ℕ) (cache mid after : LruCache (List ℕ) (List ℕ)) (found : Bool) → cache.cap ≡ 16
+pub put_all : (id content value : List ℕ) (cache mid after : LruCache (List ℕ) (List ℕ)) (found : Bool) → cache.cap ≡ 28
     → found ≡ is_some (content_in id cache.entries) → found ≡ false → mid ≡ lru_cache (promoted (bytes_eq id) cache.entries) cache.cap
     → value ≡ content → after ≡ lru_cache (put_entries bytes_eq mid id value) mid.cap → after.entries ≡ used id content cache.entries
 put_all id content value cache mid after found cap is t made same put =
     let none = found_none (content_in id cache.entries) (sym is ∙ t) in
-    let mid_is : mid ≡ lru_cache cache.entries 16 = made ∙ (ap (λ (es : Contents). lru_cache es cache.cap) (promoted_none id cache.entries none)
+    let mid_is : mid ≡ lru_cache cache.entries 28 = made ∙ (ap (λ (es : Opened). lru_cache es cache.cap) (promoted_none id cache.entries none)
     ∙ ap (λ (n : ℕ). lru_cache cache.entries n) cap) in
     ap (λ (x : LruCache (List ℕ) (List ℕ)). x.entries) put
     ∙ (ap (λ (x : LruCache (List ℕ) (List ℕ)). put_entries bytes_eq x id value) mid_is
     ∙ (put_used id value cache.entries none ∙ ap (λ (v : List ℕ). used id v cache.entries) same))
 
 -- a content that isn't there is put
-pub put_new : (id content value : List ℕ) (cache after : LruCache (List ℕ) (List ℕ)) → cache.cap ≡ 16 → content_in id cache.entries ≡ None
+pub put_new : (id content value : List ℕ) (cache after : LruCache (List ℕ) (List ℕ)) → cache.cap ≡ 28 → content_in id cache.entries ≡ None
     → value ≡ content → after ≡ lru_cache (put_entries bytes_eq cache id value) cache.cap → after.entries ≡ used id content cache.entries
 put_new id content value cache after cap none same put =
-    let cache_is : cache ≡ lru_cache cache.entries 16 = ap (λ (n : ℕ). lru_cache cache.entries n) cap in
+    let cache_is : cache ≡ lru_cache cache.entries 28 = ap (λ (n : ℕ). lru_cache cache.entries n) cap in
     ap (λ (x : LruCache (List ℕ) (List ℕ)). x.entries) put
     ∙ (ap (λ (x : LruCache (List ℕ) (List ℕ)). put_entries bytes_eq x id value) cache_is
     ∙ (put_used id value cache.entries none ∙ ap (λ (v : List ℕ). used id v cache.entries) same))
@@ -130,7 +130,7 @@ put_new id content value cache after cap none same put =
 -- ---- what fits
 
 -- the contents without one of them hold
-without_hold : (files : Files) (log : LogState) (keys : Keys) (id : List ℕ) (cs : Contents)
+without_hold : (files : Files) (log : LogState) (keys : Keys) (id : List ℕ) (cs : Opened)
     → AllByRecursion (λ c. HoldsChunk files log keys c.0 c.1) cs → AllByRecursion (λ c. HoldsChunk files log keys c.0 c.1) (without id cs)
 unfolding without
 without_hold files log keys id [] all = tt
@@ -140,36 +140,42 @@ without_hold files log keys id (c ∷ cs) all = (elim (bytes_eq id c.0) as (λ y
       | false ↦ λ t. rw t (all.0, without_hold files log keys id cs all.1)
     ]) refl
 
-take_hold : (files : Files) (log : LogState) (keys : Keys) (n : ℕ) (cs : Contents)
+take_hold : (files : Files) (log : LogState) (keys : Keys) (n : ℕ) (cs : Opened)
     → AllByRecursion (λ c. HoldsChunk files log keys c.0 c.1) cs → AllByRecursion (λ c. HoldsChunk files log keys c.0 c.1) (take n cs)
 take_hold files log keys zero cs all = tt
 take_hold files log keys (suc n) [] all = tt
 take_hold files log keys (suc n) (c ∷ cs) all = (all.0, take_hold files log keys n cs all.1)
 
 -- the contents after one was used hold
-pub used_hold : (files : Files) (log : LogState) (keys : Keys) (id content : List ℕ) (cs : Contents) → HoldsChunk files log keys id content
+pub used_hold : (files : Files) (log : LogState) (keys : Keys) (id content : List ℕ) (cs : Opened) → HoldsChunk files log keys id content
     → AllByRecursion (λ c. HoldsChunk files log keys c.0 c.1) cs → AllByRecursion (λ c. HoldsChunk files log keys c.0 c.1) (used id content cs)
 unfolding used
 used_hold files log keys id content cs holds all =
-    take_hold files log keys 16 ((id, content) ∷ without id cs) (holds, without_hold files log keys id cs all)
+    take_hold files log keys 28 ((id, content) ∷ without id cs) (holds, without_hold files log keys id cs all)
 
 -- a repository fits once one more content was used
-pub used_fits : (files : Files) (repo : RepoState) (id content : List ℕ) (cs : Contents) → HoldsChunk files repo.log repo.keys id content
-    → FitsRepo files repo cs → FitsRepo files repo (used id content cs)
-used_fits files repo id content cs holds fits = record { log = fits.log; cached = used_hold files repo.log repo.keys id content cs holds fits.cached }
+pub used_fits : (files : Files) (repo : RepoState) (id content : List ℕ) (kept : Contents) → HoldsChunk files repo.log repo.keys id content
+    → FitsRepo files repo kept → FitsRepo files repo (record kept { opened = used id content kept.opened })
+used_fits files repo id content kept holds fits = record {
+  log = fits.log;
+  cached = used_hold files repo.log repo.keys id content kept.opened holds fits.cached;
+  noted = fits.noted;
+}
 
 -- it fits what a later call is told
-pub kept_fits : (told later : Option Told) (repo : RepoState) (cached after : Contents) (id content shown : List ℕ) → heard later ≡ heard told
-    → shown ≡ content → after ≡ used id shown cached → IfSome told (λ t. FitsRepo (told_files t) repo cached)
-    → IfSome told (λ t. HoldsChunk (told_files t) repo.log repo.keys id content) → IfSome later (λ t. FitsRepo (told_files t) repo after)
-kept_fits told later repo cached after id content shown same is made fits holds =
-    told_same told later (λ f. FitsRepo f repo after) same
-    (told_with told told (λ f. FitsRepo f repo cached) (λ f. HoldsChunk f repo.log repo.keys id content) (λ f. FitsRepo f repo after) refl
-    (λ f fit hold. subst (λ (cs : Contents). FitsRepo f repo cs) (sym (made ∙ ap (λ (s : List ℕ). used id s cached) is))
-    (used_fits f repo id content cached hold fit)) fits holds)
+pub kept_fits : (told later : Option Told) (repo : RepoState) (kept : Contents) (after : Opened) (id content shown : List ℕ) → heard later ≡ heard told
+    → shown ≡ content → after ≡ used id shown kept.opened → IfSome told (λ t. FitsRepo (told_files t) repo kept)
+    → IfSome told (λ t. HoldsChunk (told_files t) repo.log repo.keys id content)
+    → IfSome later (λ t. FitsRepo (told_files t) repo (record kept { opened = after }))
+kept_fits told later repo kept after id content shown same is made fits holds =
+    told_same told later (λ f. FitsRepo f repo (record kept { opened = after })) same
+    (told_with told told (λ f. FitsRepo f repo kept) (λ f. HoldsChunk f repo.log repo.keys id content)
+    (λ f. FitsRepo f repo (record kept { opened = after })) refl
+    (λ f fit hold. subst (λ (cs : Opened). FitsRepo f repo (record kept { opened = cs })) (sym (made ∙ ap (λ (s : List ℕ). used id s kept.opened) is))
+    (used_fits f repo id content kept hold fit)) fits holds)
 
 -- what is kept of an id is its content
-pub kept_holds : (files : Files) (log : LogState) (keys : Keys) (id content : List ℕ) (cs : Contents)
+pub kept_holds : (files : Files) (log : LogState) (keys : Keys) (id content : List ℕ) (cs : Opened)
     → AllByRecursion (λ c. HoldsChunk files log keys c.0 c.1) cs → content_in id cs ≡ Some content → HoldsChunk files log keys id content
 kept_holds files log keys id content [] all some = absurd (let bad : ⊥ = cc in bad)
 kept_holds files log keys id content (c ∷ cs) all some = (elim (bytes_eq id c.0) as (λ y. bytes_eq id c.0 ≡ y → HoldsChunk files log keys id content) [

@@ -12,7 +12,7 @@ use Rattle.ferry_manifest.specs.declared.fault.MetaFault.{MetaFault}
 use Rattle.ferry_repo.specs.Archives.{HoldsRecord, BreaksRecord, RefusesRecord, HoldsContent, MissesSize, RefusesContent}
 use Rattle.ferry_repo.specs.Fault.{IsOfFiles}
 use Rattle.ferry_repo.specs.Objects.{HoldsChunk, RefusesChunk}
-use Rattle.ferry_repo.specs.Whole.{ContentsCome, HoldsJoined, RefusesJoined}
+use Rattle.ferry_repo.specs.Archives.{ContentsCome, HoldsJoined, RefusesJoined}
 use Rattle.ferry_repo.specs.declared.fault.RepoFault.{RepoFault}
 use Rattle.ferry_repo.specs.declared.fault.RepoFault.TheVariants as Fault
 use Rattle.ferry_repo.proofs.LawLemmas.{some_chunk, one_chunk, chunk_apart, one_chunk_fault}

@@ -12,11 +12,14 @@ use Rattle.ferry_disk.specs.Act.{replaced}
 use Rattle.ferry_disk.specs.Files.{Files, segment_bytes, with_file, without_segment}
 use Rattle.ferry_disk.specs.declared.name.Name.{Name}
 use Rattle.ferry_disk.specs.declared.name.Name.TheVariants.{Config, Nonce, Readme, Segment}
+use Rattle.ferry_item.specs.declared.item.ChunkRef.{ChunkRef}
 use Rattle.ferry_log.specs.State.{LogState, FitsFiles, IsBlobAt, place_in}
 use Rattle.ferry_log.specs.declared.place.Place.{Place}
 use Rattle.ferry_log.proofs.FitsLemmas.{place_holds}
 use Rattle.ferry_mac.specs.declared.keys.Keys.{Keys}
-use Rattle.ferry_repo.specs.Cached.{Contents}
+use Rattle.ferry_repo.specs.Archives.{ContentsCome}
+use Rattle.ferry_repo.specs.Cached.{Contents, Noted, Opened}
+use Rattle.ferry_repo.specs.Noted.{IsNoted}
 use Rattle.ferry_repo.specs.Objects.{HasBlob, HoldsChunk, KeepsBlobs}
 use Rattle.ferry_repo.specs.Opening.{RepoState, FitsRepo}
 use Rattle.ferry_repo.specs.Walk.{HoldChunks, WalkState, FitsWalk}
@@ -50,14 +53,36 @@ walk_kept f g a b keys walk keeps fits = record {
   met = fits.met;
 }
 
-cached_kept : (f g : Files) (a b : LogState) (keys : Keys) (cached : Contents) → KeepsBlobs f a g b
+cached_kept : (f g : Files) (a b : LogState) (keys : Keys) (cached : Opened) → KeepsBlobs f a g b
     → AllByRecursion (λ c. HoldsChunk f a keys c.0 c.1) cached → AllByRecursion (λ c. HoldsChunk g b keys c.0 c.1) cached
 cached_kept f g a b keys [] keeps all = tt
 cached_kept f g a b keys (c ∷ cs) keeps all = (chunk_kept f g a b keys c.0 c.1 keeps all.0, cached_kept f g a b keys cs keeps all.1)
 
-pub repo_kept : (f g : Files) (repo : RepoState) (cached : Contents) (log : LogState) → FitsFiles g log → KeepsBlobs f repo.log g log
-    → FitsRepo f repo cached → FitsRepo g (record repo { log = log }) cached
-repo_kept f g repo cached log log_fits keeps fits = record { log = log_fits; cached = cached_kept f g repo.log log repo.keys cached keeps fits.cached }
+come_kept : (f g : Files) (a b : LogState) (keys : Keys) (chunks : List ChunkRef) (contents : List (List ℕ)) → KeepsBlobs f a g b
+    → ContentsCome f a keys chunks contents None → ContentsCome g b keys chunks contents None
+come_kept f g a b keys [] [] keeps come = tt
+come_kept f g a b keys [] (content ∷ contents) keeps come = absurd come
+come_kept f g a b keys (chunk ∷ chunks) [] keeps come = absurd come
+come_kept f g a b keys (chunk ∷ chunks) (content ∷ contents) keeps come = (
+  record { holds = chunk_kept f g a b keys chunk.id content keeps come.0.holds; size = come.0.size },
+  come_kept f g a b keys chunks contents keeps come.1,
+)
+
+noted_kept : (f g : Files) (a b : LogState) (keys : Keys) (noted : Noted) → KeepsBlobs f a g b
+    → AllByRecursion (λ n. IsNoted f a keys n.1) noted → AllByRecursion (λ n. IsNoted g b keys n.1) noted
+noted_kept f g a b keys [] keeps all = tt
+noted_kept f g a b keys (n ∷ ns) keeps all = (
+  (all.0.0, (all.0.1.0, (all.0.1.1.0, come_kept f g a b keys n.1.chunks all.0.1.1.0 keeps all.0.1.1.1, all.0.1.1.2))),
+  noted_kept f g a b keys ns keeps all.1,
+)
+
+pub repo_kept : (f g : Files) (repo : RepoState) (kept : Contents) (log : LogState) → FitsFiles g log → KeepsBlobs f repo.log g log
+    → FitsRepo f repo kept → FitsRepo g (record repo { log = log }) kept
+repo_kept f g repo kept log log_fits keeps fits = record {
+  log = log_fits;
+  cached = cached_kept f g repo.log log repo.keys kept.opened keeps fits.cached;
+  noted = noted_kept f g repo.log log repo.keys kept.noted keeps fits.noted;
+}
 
 -- ---- what keeps it
 

@@ -1,5 +1,5 @@
 -- Lemmas on specs/Opening.antt and specs/Objects.antt: one answer holds, and one alone.
-use Rattle.std.proofs.Common.{◌≡◌, ◌≢◌, ℕ, ◌⊎◌, Bool, true, false, List, [], take, drop, Option, Some, None, Result, Ok, Err, refl, sym, ◌∙◌, ap}
+use Rattle.std.proofs.Common.{◌≡◌, ◌≢◌, ℕ, ◌⊎◌, Bool, true, false, List, take, drop, Option, Some, None, Result, Ok, Err, refl, sym, ◌∙◌, ap}
 use Rattle.std.proofs.Common.{subst, inl, inr}
 use Rattle.std.proofs.lemmas.Slice.Eq.{bytes_eq-Decides}
 use Rattle.std.specs.Str.{bytes_eq}
@@ -27,6 +27,7 @@ use Rattle.ferry_segment.specs.Entry.{IsBytes}
 use Rattle.ferry_repo.proofs.OpeningLemmas.{key_refused, kind_of_files, unlocked_kind}
 use Rattle.ferry_repo.specs.declared.fault.RepoFault.{RepoFault}
 use Rattle.ferry_repo.specs.declared.fault.RepoFault.TheVariants as Fault
+use Rattle.ferry_repo.specs.Cached.{no_contents}
 use Rattle.ferry_repo.specs.Fault.{IsOfFiles}
 use Rattle.ferry_repo.specs.Objects.{HasBlob, IsMissing, HoldsObject, BreaksObject, HoldsChunk, RefusesChunk}
 use Rattle.ferry_repo.specs.Opening.{RepoState, UnlockedText, unlocked, ReadsLog, UnlocksFiles, OpensRepo, OpensFilesTo, FitsRepo, RefusesRepo}
@@ -240,10 +241,11 @@ one_repo files secret a b ha hb =
     rw (parts.0, parts.1, parts.2, parts.3) refl
 
 -- files fit what they open to
-pub opens_fits : (files : Files) (secret : Secret) (repo : RepoState) → OpensFilesTo files secret repo → FitsRepo files repo []
+pub opens_fits : (files : Files) (secret : Secret) (repo : RepoState) → OpensFilesTo files secret repo → FitsRepo files repo no_contents
 opens_fits files secret repo opens = record {
   log = opened_fits files repo.log opens.opens.unlocks.reads;
   cached = tt;
+  noted = tt;
 }
 
 -- the answers on a repository

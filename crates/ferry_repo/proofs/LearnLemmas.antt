@@ -127,7 +127,7 @@ learn_walk files log keys id place walk missing fits =
 
 pub renew_fits : (files : Files) (repo : RepoState) (cached : Contents) (manifest : ManifestText) → FitsRepo files repo cached
     → FitsRepo files (record repo { manifest = manifest }) cached
-renew_fits files repo cached manifest fits = record { log = fits.log; cached = fits.cached }
+renew_fits files repo cached manifest fits = record { log = fits.log; cached = fits.cached; noted = fits.noted }
 
 pub renew_walk : (files : Files) (repo : RepoState) (manifest : ManifestText) (walk : WalkState) → FitsWalk files repo.log repo.keys walk
     → FitsWalk files (record repo { manifest = manifest }).log (record repo { manifest = manifest }).keys walk

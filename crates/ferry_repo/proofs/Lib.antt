@@ -1,4 +1,5 @@
 pub mod FaultLemmas
+pub mod NotedLemmas
 pub mod ObjectLemmas
 pub mod BatchLemmas
 pub mod OpeningLemmas

@@ -32,7 +32,7 @@ use Rattle.ferry_repo.specs.Objects.{HoldsObject, RefusesObject}
 use Rattle.ferry_fields.specs.Others.{has_among}
 use Rattle.ferry_manifest.specs.Manifest.Text.{ManifestText}
 use Rattle.ferry_manifest.specs.Manifest.Writing.{IsPackable}
-use Rattle.ferry_repo.specs.Opening.{IsOfManifest, LacksRoot, OpensBare, RefusesBare, RepoState, RootOrNone, no_manifest}
+use Rattle.ferry_repo.specs.Opening.{IsOfManifest, LacksRoot, OpensBare, RefusesBare, RootOrNone, no_manifest}
 use Rattle.ferry_repo.specs.Opening.{UnlocksTo, UnlocksFiles, RefusesKey, IsRefusal, IsNoManifest, RefusesRepo, OpenedText}
 use Rattle.ferry_repo.specs.Opening.{key_text, mode_of, opened_by, opened_key, opened_text, opened_where, text_by, text_in}
 use Rattle.ferry_repo.specs.Opening.{text_of, unlocked, unlocked_where, unlocked_with}

@@ -6,11 +6,11 @@ use Rattle.ferry_log.specs.State.{LogState, FitsFiles}
 use Rattle.ferry_mac.specs.declared.keys.Keys.{Keys}
 use Rattle.ferry_manifest.specs.Record.Text.{ArchiveText}
 use Rattle.ferry_manifest.specs.declared.manifest.ArchiveRef.{ArchiveRef}
-use Rattle.ferry_repo.specs.Archives.{archive_named, HoldsRecord, RefusesRecord}
+use Rattle.ferry_repo.specs.Archives.{archive_named, HoldsRecord, RefusesRecord, HoldsJoined, RefusesJoined}
 use Rattle.ferry_repo.specs.Fault.{IsOfFiles}
 use Rattle.ferry_repo.specs.Opening.{RepoState}
 use Rattle.ferry_repo.specs.Walk.{Comes, item_comes, chunk_comes, chunk_refused, item_faulty, stream_whole, stream_cut}
-use Rattle.ferry_repo.specs.Whole.{HoldsJoined, RefusesJoined, WholeItem, HoldsItem, WholesCome, Reading, ReadsArchive, RefusesArchive, each_item}
+use Rattle.ferry_repo.specs.Whole.{WholeItem, HoldsItem, WholesCome, Reading, ReadsArchive, RefusesArchive, each_item}
 use Rattle.ferry_repo.specs.Whole.{WholeArchive, IsWhole, RefusesWhole, HasWhole}
 use Rattle.ferry_repo.specs.declared.fault.RepoFault.{RepoFault}
 use Rattle.ferry_repo.specs.declared.secret.Secret.{Secret}

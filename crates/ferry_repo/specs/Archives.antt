@@ -3,12 +3,14 @@
 use Rattle.std.specs.Prelude.{◌≡◌, ◌≢◌, ℕ, List, [], ◌∷◌, length, if◌then◌else◌, Option, Some, None, Ok, Err}
 use Rattle.std.specs.Str.{bytes_eq}
 use Rattle.ferry_disk.specs.Files.{Files}
+use Rattle.ferry_item.specs.Stream.{joined}
 use Rattle.ferry_item.specs.declared.item.ChunkRef.{ChunkRef}
 use Rattle.ferry_log.specs.State.{LogState}
 use Rattle.ferry_mac.specs.declared.keys.Keys.{Keys}
 use Rattle.ferry_manifest.specs.Record.Text.{ArchiveText, archive_of}
 use Rattle.ferry_manifest.specs.declared.fault.MetaFault.{MetaFault}
 use Rattle.ferry_manifest.specs.declared.manifest.ArchiveRef.{ArchiveRef}
+use Rattle.ferry_repo.specs.Fault.{IsOfFiles}
 use Rattle.ferry_repo.specs.Objects.{HoldsChunk, RefusesChunk}
 use Rattle.ferry_repo.specs.declared.fault.RepoFault.{RepoFault}
 use Rattle.ferry_repo.specs.declared.fault.RepoFault.TheVariants.{Archive, Size, Memory}
@@ -72,3 +74,27 @@ pub record MissesSize (files : Files) (log : LogState) (keys : Keys) (chunk : Ch
 abbrev pub RefusesContent : Files → LogState → Keys → ChunkRef → RepoFault → Type 0
 RefusesContent files log keys chunk (Size named) = (named ≡ chunk.id) × MissesSize files log keys chunk
 RefusesContent files log keys chunk fault = RefusesChunk files log keys chunk.id fault
+
+-- Of these chunks of an item come these contents, and this end: none where all are there, each of its stated length, else the fault of
+-- the first that isn't.
+abbrev pub ContentsCome : Files → LogState → Keys → List ChunkRef → List (List ℕ) → Option RepoFault → Type 0
+ContentsCome files log keys [] [] None = Unit {0}
+ContentsCome files log keys [] [] (Some fault) = ⊥
+ContentsCome files log keys [] (content ∷ contents) end = ⊥
+ContentsCome files log keys (chunk ∷ chunks) [] None = ⊥
+ContentsCome files log keys (chunk ∷ chunks) [] (Some fault) = IsOfFiles fault × RefusesContent files log keys chunk fault
+ContentsCome files log keys (chunk ∷ chunks) (content ∷ contents) end =
+    HoldsContent files log keys chunk content × ContentsCome files log keys chunks contents end
+
+-- This is the content of an item with these chunks: none where it has no chunks, else theirs, joined.
+abbrev pub HoldsJoined : Files → LogState → Keys → Option (List ChunkRef) → Option (List ℕ) → Type 0
+HoldsJoined files log keys None None = Unit {0}
+HoldsJoined files log keys None (Some content) = ⊥
+HoldsJoined files log keys (Some chunks) None = ⊥
+HoldsJoined files log keys (Some chunks) (Some content) =
+    (contents : List (List ℕ)) × ContentsCome files log keys chunks contents None × (content ≡ joined contents)
+
+-- One of these chunks of an item is refused first, so.
+abbrev pub RefusesJoined : Files → LogState → Keys → Option (List ChunkRef) → RepoFault → Type 0
+RefusesJoined files log keys None fault = ⊥
+RefusesJoined files log keys (Some chunks) fault = (contents : List (List ℕ)) × ContentsCome files log keys chunks contents (Some fault)

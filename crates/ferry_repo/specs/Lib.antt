@@ -1,4 +1,5 @@
 pub mod Fault
+pub mod Noted
 pub mod Objects
 pub mod Batch
 pub mod Cached

@@ -25,6 +25,7 @@ use Rattle.ferry_manifest.specs.Manifest.Text.{ManifestText, manifest_of, manife
 use Rattle.ferry_msgpack.specs.Tree.{table, no_pairs}
 use Rattle.ferry_repo.specs.Cached.{Contents}
 use Rattle.ferry_repo.specs.Fault.{IsOfFiles}
+use Rattle.ferry_repo.specs.Noted.{IsNoted}
 use Rattle.ferry_repo.specs.Objects.{HoldsObject, RefusesObject, HoldsChunk}
 use Rattle.ferry_repo.specs.declared.fault.RepoFault.{RepoFault}
 use Rattle.ferry_repo.specs.declared.fault.RepoFault.TheVariants as Fault
@@ -132,9 +133,9 @@ repo_view repo = record {
   manifest = manifest_view repo.manifest;
 }
 
--- the contents that a repository keeps
+-- what a repository keeps in memory
 abbrev pub cached_in : Repo → Contents
-cached_in repo = repo.cache
+cached_in repo = record { opened = repo.cache; noted = repo.notes }
 
 -- The log of the files reads, and this is its state.
 abbrev pub ReadsLog : Files → Type 0
@@ -247,7 +248,8 @@ RootOrNone files log keys manifest (Some fault) = (manifest ≡ no_manifest) × 
 
 -- ---- what fits
 
--- A repository fits files: its log does, and each content that it keeps is what opens under its id there.
+-- A repository fits files: its log does, each content that it keeps is what opens under its id there, and its notes are of contents that are there.
 pub record FitsRepo (files : Files) (repo : RepoState) (contents : Contents) : Type 0 where
   pub log : FitsFiles files repo.log
-  pub cached : AllByRecursion (λ c. HoldsChunk files repo.log repo.keys c.0 c.1) contents
+  pub cached : AllByRecursion (λ c. HoldsChunk files repo.log repo.keys c.0 c.1) contents.opened
+  pub noted : AllByRecursion (λ n. IsNoted files repo.log repo.keys n.1) contents.noted

@@ -20,13 +20,13 @@ use ferry_log::Log;
 use ferry_mac::Keys;
 use std::alloc::{AllocError, Global};
 
-/// How many contents are read ahead at most. Of the sixteen that are kept the others are left to what is used between, as the chunks of
-/// a stream.
-pub(crate) const AHEAD: usize = 12;
+/// How many contents are read ahead at most. Of the twenty-eight that are kept the others are left to what is used between, as the chunks
+/// of a stream.
+pub(crate) const AHEAD: usize = 24;
 
-/// How many bytes of blobs are read ahead at most, with those of the contents that are kept, but for the first blob: twelve contents of
-/// 2 MiB, and 128 KiB for what stands before each and for a chunk of the stream.
-const ROOM: u64 = 25_296_896;
+/// How many bytes of blobs are read ahead at most, with those of the contents that are kept, but for the first blob: twenty-four
+/// contents of 2 MiB, and 128 KiB for what stands before each and for a chunk of the stream.
+const ROOM: u64 = 50_462_720;
 
 /// Some blobs, with the ids of their contents in the same order, and how many bytes more may be read.
 #[derive(Drop)]

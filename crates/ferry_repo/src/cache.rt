@@ -16,7 +16,7 @@ use std::marker::Model;
 use std::num::NonZeroUsize;
 
 /// How many contents are kept at most. A content may have 20 MiB.
-pub(crate) const LIMIT: usize = 16;
+pub(crate) const LIMIT: usize = 28;
 
 /// The contents that were used last, with their ids. Contracts see them as a list, the latest first.
 #[derive(Drop)]
@@ -27,13 +27,13 @@ pub(crate) struct Cache {
 
 impl Model for Cache {
     ghost use Rattle.std.specs.Prelude.{◌≡◌};
-    ghost use Rattle.ferry_repo.specs.Cached.{Contents};
+    ghost use Rattle.ferry_repo.specs.Cached.{Opened};
 
-    ghost Value = { Contents };
+    ghost Value = { Opened };
 
     ghost view = { λ c. c.entries.entries };
 
-    ghost invariant = { λ c. c.entries.cap ≡ 16 };
+    ghost invariant = { λ c. c.entries.cap ≡ 28 };
 }
 
 impl Cache {
@@ -84,7 +84,7 @@ impl Cache {
     /// How many contents are kept.
     pub(crate) fn count(&self) -> usize
         ensures count { result ≡ length self.now }
-        ensures few { result ≤ 16 }
+        ensures few { result ≤ 28 }
     {
         self.entries.len()
     }

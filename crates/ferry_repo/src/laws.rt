@@ -15,7 +15,7 @@ ghost use Rattle.ferry_manifest.specs.Manifest.Text.{ManifestText};
 ghost use Rattle.ferry_manifest.specs.declared.manifest.ArchiveRef.{ArchiveRef};
 ghost use Rattle.ferry_segment.specs.Entry.{IsBytes};
 ghost use Rattle.ferry_repo.specs.Archives.{archive_named, RefusesRecord};
-ghost use Rattle.ferry_repo.specs.Cached.{Contents};
+ghost use Rattle.ferry_repo.specs.Cached.{Contents, no_contents};
 ghost use Rattle.ferry_repo.specs.Fault.{IsOfFiles};
 ghost use Rattle.ferry_repo.specs.Objects.{HasBlob, IsMissing, HoldsChunk, RefusesChunk, KeepsBlobs};
 ghost use Rattle.ferry_repo.specs.Opening.{RepoState, OpensFilesTo, FitsRepo, RefusesRepo};
@@ -35,7 +35,7 @@ pub fn repo_laws()
         → OpensFilesTo files secret repo → IsOfFiles fault → RefusesRepo files secret fault → ⊥ }
     ensures one_fault { (files : Files) (secret : Secret) (f g : RepoFault) → IsOfFiles f → IsOfFiles g
         → RefusesRepo files secret f → RefusesRepo files secret g → f ≡ g }
-    ensures fits { (files : Files) (secret : Secret) (repo : RepoState) → OpensFilesTo files secret repo → FitsRepo files repo [] }
+    ensures fits { (files : Files) (secret : Secret) (repo : RepoState) → OpensFilesTo files secret repo → FitsRepo files repo no_contents }
 {}
 
 /// An id has one content over files that fit the log, or is refused for one cause, and never both. Over files as they were opened,

@@ -11,6 +11,7 @@ mod cache;
 mod fault;
 mod laws;
 mod lengths;
+mod notes;
 mod object;
 mod opening;
 mod reason;

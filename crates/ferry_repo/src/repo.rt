@@ -8,9 +8,10 @@ ghost use Rattle.ferry_manifest.specs.Manifest.Text.{manifest_view};
 ghost use Rattle.ferry_manifest.specs.Manifest.Writing.{IsPackable};
 ghost use Rattle.ferry_manifest.specs.Record.Text.{archive_of, archive_view};
 ghost use Rattle.ferry_repo.specs.Archives.{archive_named, IsNoRecord, HoldsNamed, RefusesNamed, HoldsContent, RefusesContent};
-ghost use Rattle.ferry_repo.specs.Cached.{IsCached, content_in, used};
+ghost use Rattle.ferry_repo.specs.Cached.{IsCached, content_in, no_contents, used};
 ghost use Rattle.ferry_repo.specs.Fault.{repo_failed, IsOfFiles};
 ghost use Rattle.ferry_repo.specs.Lengths.{HaveLengths, RefusesOne};
+ghost use Rattle.ferry_repo.specs.Noted.{IsCut, IsNoted};
 ghost use Rattle.ferry_repo.specs.Objects.{IsMissing, HoldsChunk, RefusesChunk};
 ghost use Rattle.ferry_repo.specs.Opening.{repo_view, cached_in, mode_of, IsOfManifest, OpensBare, OpensFilesTo, RefusesBare, RefusesRepo, FitsRepo};
 ghost use Rattle.ferry_repo.specs.Walk.{walk_view, begin_walk, FitsWalk};
@@ -18,6 +19,7 @@ ghost use Rattle.ferry_repo.specs.Walk.{walk_view, begin_walk, FitsWalk};
 use crate::batch::{AHEAD, Batch};
 use crate::cache::{Cache, LIMIT as KEPT};
 use crate::fault::{RepoFault, of_archive};
+use crate::notes::{Note, Notes};
 use crate::object::object;
 use crate::opening::{mode_of, root_or_none, settings, unlock};
 use crate::secret::Secret;
@@ -26,15 +28,16 @@ use ferry_base::{Id, ZERO_ID};
 use ferry_blob::Mode;
 use ferry_config::Config;
 use ferry_disk::Shelf;
-use ferry_item::ChunkRef;
+use ferry_item::{ChunkRef, ChunkRefs};
 use ferry_log::{Log, Place, open_log};
 use ferry_mac::Keys;
 use ferry_manifest::{Archive, ArchiveRef, Ids, Manifest, read_archive};
 use std::alloc::{AllocError, Global};
 use std::cmp::min;
 
-/// A repository opened for reading: it owns what it read of its log, its settings, its keys and its manifest, and the contents that it
-/// answered or read ahead last, sixteen at most. It is used with the shelf on which it was opened.
+/// A repository opened for reading: it owns what it read of its log, its settings, its keys and its manifest, the contents that it
+/// answered or read ahead last, twenty-eight at most, and notes of contents that were cut for a target. It is used with the shelf on which
+/// it was opened.
 ///
 /// There is no `Debug`, so that no message can show a key.
 #[derive(Drop)]
@@ -45,6 +48,7 @@ pub struct Repo {
     keys: Keys,
     manifest: Manifest,
     cache: Cache,
+    notes: Notes,
 }
 
 impl Repo {
@@ -58,7 +62,7 @@ impl Repo {
         ensures repository { IfOk result (λ repo. IfSome (S.told shelf.old) (λ t.
             OpensFilesTo (told_files t) secret.now (repo_view repo))) }
         ensures packable { IfOk result (λ repo. IsPackable (repo_view repo).manifest) }
-        ensures cached { IfOk result (λ repo. cached_in repo ≡ []) }
+        ensures cached { IfOk result (λ repo. cached_in repo ≡ no_contents) }
         ensures refused { IfErr result (λ fault. IfSome (S.told shelf.old) (λ t.
             RefusesRepo (told_files t) secret.now fault)) }
         ensures same { KeepsTold repo_failed (S.told shelf.old) (S.told shelf.new) result }
@@ -87,7 +91,7 @@ impl Repo {
         ensures repository { IfOk result (λ both. IfSome (S.told shelf.old) (λ t.
             OpensBare (told_files t) secret.now (repo_view both.0) both.1)) }
         ensures packable { IfOk result (λ both. IsPackable (repo_view both.0).manifest) }
-        ensures cached { IfOk result (λ both. cached_in both.0 ≡ []) }
+        ensures cached { IfOk result (λ both. cached_in both.0 ≡ no_contents) }
         ensures of_manifest { IfOk result (λ both. IfSome both.1 IsOfManifest) }
         ensures refused { IfErr result (λ fault. IfSome (S.told shelf.old) (λ t.
             RefusesBare (told_files t) secret.now fault)) }
@@ -98,6 +102,7 @@ impl Repo {
         let unlocked = unlock(alloc, shelf, secret)?;
         let (manifest, fault) = root_or_none(alloc, shelf, &log, &unlocked.key.keys)?;
         let cache = Cache::new(alloc)?;
+        let notes = Notes::new(alloc);
         let (config, keys) = settings(unlocked);
         Ok((
             Repo {
@@ -107,6 +112,7 @@ impl Repo {
                 keys,
                 manifest,
                 cache,
+                notes,
             },
             fault,
         ))
@@ -142,15 +148,15 @@ impl Repo {
 
     /// The content of a chunk, where it is kept.
     pub fn kept_content(&self, id: &Id) -> Option<&[u8]>
-        ensures content { option_copied result ≡ content_in id.now (cached_in self.now) }
+        ensures content { option_copied result ≡ content_in id.now (cached_in self.now).opened }
     {
         self.cache.get(id)
     }
 
-    /// How many contents are kept, which is never more than sixteen.
+    /// How many contents are kept, which is never more than twenty-eight.
     pub fn kept(&self) -> usize
-        ensures kept { result ≡ length (cached_in self.now) }
-        ensures few { length (cached_in self.now) ≤ 16 }
+        ensures kept { result ≡ length (cached_in self.now).opened }
+        ensures few { length (cached_in self.now).opened ≤ 28 }
     {
         self.cache.count()
     }
@@ -170,12 +176,13 @@ impl Repo {
             HoldsChunk (told_files t) (repo_view self.old).log (repo_view self.old).keys id.now content.items)) }
         ensures refused { IfErr result (λ fault. IfSome (S.told shelf.old) (λ t.
             RefusesChunk (told_files t) (repo_view self.old).log (repo_view self.old).keys id.now fault)) }
-        ensures cached { IfOk result (λ content. cached_in self.new ≡ used id.now content.items (cached_in self.old)) }
+        ensures cached { IfOk result (λ content. cached_in self.new
+            ≡ record (cached_in self.old) { opened = used id.now content.items (cached_in self.old).opened }) }
         ensures uncached { OnErr result (cached_in self.new ≡ cached_in self.old) }
         // A content that is kept is answered without a call on the shelf.
-        ensures hit { IfSome (content_in id.now (cached_in self.old)) (λ kept.
+        ensures hit { IfSome (content_in id.now (cached_in self.old).opened) (λ kept.
             MatchResult result (λ content. content.items ≡ kept) (λ fault. fault ≡ RepoFault.Memory)) }
-        ensures unread { IsCached id.now (cached_in self.old) → shelf.new ≡ shelf.old }
+        ensures unread { IsCached id.now (cached_in self.old).opened → shelf.new ≡ shelf.old }
         ensures fits { IfSome (S.told shelf.new) (λ t. FitsRepo (told_files t) (repo_view self.new) (cached_in self.new)) }
         ensures kept { repo_view self.new ≡ repo_view self.old }
         ensures same { KeepsTold repo_failed (S.told shelf.old) (S.told shelf.new) result }
@@ -198,11 +205,12 @@ impl Repo {
             HoldsContent (told_files t) (repo_view self.old).log (repo_view self.old).keys chunk.now content.items)) }
         ensures refused { IfErr result (λ fault. IfSome (S.told shelf.old) (λ t.
             RefusesContent (told_files t) (repo_view self.old).log (repo_view self.old).keys chunk.now fault)) }
-        ensures cached { IfOk result (λ content. cached_in self.new ≡ used chunk.now.id content.items (cached_in self.old)) }
+        ensures cached { IfOk result (λ content. cached_in self.new
+            ≡ record (cached_in self.old) { opened = used chunk.now.id content.items (cached_in self.old).opened }) }
         ensures uncached { OnErr result (cached_in self.new ≡ cached_in self.old) }
-        ensures hit { IfSome (content_in chunk.now.id (cached_in self.old)) (λ kept.
+        ensures hit { IfSome (content_in chunk.now.id (cached_in self.old).opened) (λ kept.
             MatchResult result (λ content. content.items ≡ kept) (λ fault. (fault ≡ RepoFault.Memory) ⊎ (fault ≡ RepoFault.Size chunk.now.id))) }
-        ensures unread { IsCached chunk.now.id (cached_in self.old) → shelf.new ≡ shelf.old }
+        ensures unread { IsCached chunk.now.id (cached_in self.old).opened → shelf.new ≡ shelf.old }
         ensures fits { IfSome (S.told shelf.new) (λ t. FitsRepo (told_files t) (repo_view self.new) (cached_in self.new)) }
         ensures kept { repo_view self.new ≡ repo_view self.old }
         ensures same { KeepsTold repo_failed (S.told shelf.old) (S.told shelf.new) result }
@@ -217,7 +225,7 @@ impl Repo {
     }
 
     /// The content of an item's chunk, which is the first of `later`, as `content` answers it. Where it isn't kept, those that follow are
-    /// read with it, opened side by side and kept, as many as twelve contents and 24 MiB hold.
+    /// read with it, opened side by side and kept, as many as twenty-four contents and 48 MiB hold.
     #[tactic(auto, using(crate::proofs::FaultLemmas::conversions))]
     pub fn content_ahead<S: Shelf>(
         &mut self,
@@ -306,7 +314,7 @@ impl Repo {
     }
 
     /// The same walk for one who reads no contents between the steps: the chunks of the stream are read ahead, opened side by side and
-    /// kept, as many as twelve and 24 MiB hold.
+    /// kept, as many as twenty-four and 48 MiB hold.
     pub fn walk_stream(&self, id: &Id, archive: &Archive) -> Result<Walk, RepoFault>
         ensures walk { IfOk result (λ walk. walk_view walk ≡ begin_walk id.now archive.now.items) }
         ensures fits { IfOk result (λ walk. (files : Files) → FitsWalk files (repo_view self.now).log (repo_view self.now).keys (walk_view walk)) }
@@ -314,6 +322,44 @@ impl Repo {
     {
         let ids = Vec::from_slice(self.alloc, archive.items.as_slice())?;
         Ok(Walk::new(self.alloc, *id, Ids::new(ids), true))
+    }
+
+    /// The chunks of the pieces of a content that has these chunks, cut into pieces of `block` bytes under these keys, where `note` took them.
+    pub fn noted(&self, keys: &Keys, block: usize, chunks: &[ChunkRef]) -> Option<&[ChunkRef]>
+        ensures noted { IfSome result (λ pieces. (files : Files) → FitsRepo files (repo_view self.now) (cached_in self.now)
+            → IsNoted files (repo_view self.now).log (repo_view self.now).keys
+            (record { key = keys.now.id_key; block = block; chunks = chunks.now; pieces = pieces.now })) }
+        ensures cut { IfSome result (λ pieces. IsCut (record { key = keys.now.id_key; block = block; chunks = chunks.now; pieces = pieces.now })) }
+    {
+        self.notes.get(&keys.id_key, block, chunks)
+    }
+
+    /// Whether reading ahead passes over a content that has these chunks: it is noted, however it was cut, or `pass_over` took it.
+    pub fn passes_over(&self, chunks: &[ChunkRef]) -> bool {
+        self.notes.has(chunks)
+    }
+
+    /// Has reading ahead pass over a content that has these chunks, as over one that is noted. Only time depends on it.
+    pub fn pass_over(&mut self, chunks: &[ChunkRef])
+        ensures kept { repo_view self.new ≡ repo_view self.old }
+        ensures cached { cached_in self.new ≡ cached_in self.old }
+    {
+        self.notes.pass_over(chunks);
+    }
+
+    /// Notes a content that has these chunks, by the chunks of the pieces of `block` bytes into which it is cut under these keys. Where the
+    /// notes have no room left, or memory is refused, nothing is noted.
+    pub fn note(&mut self, keys: &Keys, block: usize, chunks: &[ChunkRef], pieces: &[ChunkRef])
+        requires cut { IsCut (record { key = keys.now.id_key; block = block; chunks = chunks.now; pieces = pieces.now }) }
+        ensures fits { (files : Files) → FitsRepo files (repo_view self.old) (cached_in self.old)
+            → IsNoted files (repo_view self.old).log (repo_view self.old).keys
+            (record { key = keys.now.id_key; block = block; chunks = chunks.now; pieces = pieces.now })
+            → FitsRepo files (repo_view self.new) (cached_in self.new) }
+        ensures kept { repo_view self.new ≡ repo_view self.old }
+    {
+        if let Ok(note) = note_of(self.alloc, keys, block, chunks, pieces) {
+            self.notes.put(note);
+        }
     }
 
     /// Learns the place of a chunk that isn't live, whose blob was put: from then on the chunk is live, and is read there. A refused call
@@ -342,7 +388,7 @@ impl Repo {
 impl Repo {
     /// Whether the content of a chunk is kept.
     pub(crate) fn keeps(&self, id: &Id) -> bool
-        ensures { result ≡ is_some (content_in id.now (cached_in self.now)) }
+        ensures { result ≡ is_some (content_in id.now (cached_in self.now).opened) }
     {
         self.cache.get(id).is_some()
     }
@@ -384,7 +430,7 @@ impl Repo {
     /// can't be read is left to the call that asks for it, as is one alone. Of the contents that are kept before, so many stay that were used
     /// last, where there is room.
     #[tactic(auto, using(crate::proofs::FaultLemmas::conversions))]
-    pub(crate) fn read_ahead<S: Shelf>(
+    pub fn read_ahead<S: Shelf>(
         &mut self,
         shelf: &mut S,
         ids: &[Id],
@@ -436,9 +482,9 @@ impl Repo {
             HoldsChunk (told_files t) (repo_view self.now).log (repo_view self.now).keys id.now content.items)) }
         ensures refused { IfErr result (λ fault. IfSome (S.told shelf.old) (λ t.
             RefusesChunk (told_files t) (repo_view self.now).log (repo_view self.now).keys id.now fault)) }
-        ensures hit { IfSome (content_in id.now (cached_in self.now)) (λ kept.
+        ensures hit { IfSome (content_in id.now (cached_in self.now).opened) (λ kept.
             MatchResult result (λ content. content.items ≡ kept) (λ fault. fault ≡ RepoFault.Memory)) }
-        ensures unread { IsCached id.now (cached_in self.now) → shelf.new ≡ shelf.old }
+        ensures unread { IsCached id.now (cached_in self.now).opened → shelf.new ≡ shelf.old }
         ensures same { KeepsTold repo_failed (S.told shelf.old) (S.told shelf.new) result }
         ensures cause { HasCause repo_failed (S.faults shelf.old) (S.faults shelf.new) result }
     {
@@ -450,6 +496,26 @@ impl Repo {
         }
         object(self.alloc, shelf, &self.log, &self.keys, id)
     }
+}
+
+/// A note of a content.
+fn note_of(
+    alloc: Global,
+    keys: &Keys,
+    block: usize,
+    chunks: &[ChunkRef],
+    pieces: &[ChunkRef],
+) -> Result<Note, AllocError>
+    ensures note { IfOk result (λ note. note ≡ record { key = keys.now.id_key; block = block; chunks = chunks.now; pieces = pieces.now }) }
+{
+    let chunks = Vec::from_slice(alloc, chunks)?;
+    let pieces = Vec::from_slice(alloc, pieces)?;
+    Ok(Note {
+        key: keys.id_key,
+        block,
+        chunks: ChunkRefs::new(chunks),
+        pieces: ChunkRefs::new(pieces),
+    })
 }
 
 /// The id of the record of the archive of a name.

@@ -24,6 +24,12 @@ use std::mem;
 /// The size in bytes from which a content takes longer to be opened than some items to be read.
 const LARGE: u64 = 2_048;
 
+/// How many items a look ahead reads at most.
+const ITEMS_AHEAD: usize = 256;
+
+/// Of how many items with content a look ahead answers the chunks at most.
+const LISTS_AHEAD: usize = 23;
+
 /// A walk over the items of an archive. It owns the ids of the chunks of the archive's stream and what it read ahead of them. It is
 /// used with the repository that made it and its shelf.
 #[derive(Drop)]
@@ -123,8 +129,9 @@ impl Walk {
     }
 
     /// Brings the contents of chunks that are wanted next among those that the repository keeps, where the first of `chunks` isn't
-    /// there: of `chunks`, the rest of an item, and then of the items that stand whole in what was read. As many are read as twelve contents
-    /// and 24 MiB hold, and opened side by side. Only time depends on it: the call that asks for a content says what is wrong with it.
+    /// there: of `chunks`, the rest of an item, and then of the items that stand whole in what was read, but for contents that the repository
+    /// passes over. As many are read as twenty-four contents and 48 MiB hold, and opened side by side. Only time depends on it: the call that asks
+    /// for a content says what is wrong with it.
     #[tactic(auto, using(crate::proofs::FaultLemmas::conversions))]
     pub fn read_ahead<S: Shelf>(
         &self,
@@ -142,14 +149,27 @@ impl Walk {
         if chunks.is_empty() || repo.keeps(&chunks[0].id) {
             return Ok(());
         }
-        let wanted = self.chunks_ahead(chunks)?;
+        let wanted = self.chunks_ahead(repo, chunks)?;
         repo.read_contents(shelf, wanted.as_slice())
     }
 
-    /// The chunks of the items with content that come next, so far as they stand whole in what was read: a list for each item, of the next eleven at
-    /// most. The walk stays where it is.
-    pub fn lists_ahead(&self) -> Result<Vec<ChunkRefs>, AllocError> {
-        self.reader.lists_ahead()
+    /// The chunks of the items with content that come next and isn't passed over, so far as they stand whole in what was read: a list for each
+    /// item, of the next twenty-three at most. Of the items that come 256 are looked at at most, and a malformed one ends the look. The walk
+    /// stays where it is.
+    pub fn lists_ahead(&self, repo: &Repo) -> Result<Vec<ChunkRefs>, AllocError> {
+        let mut lists = Vec::new(self.alloc);
+        let mut behind = 0;
+        for _ in 0..ITEMS_AHEAD {
+            let Some((chunks, end)) = self.reader.item_ahead(behind) else {
+                break;
+            };
+            behind = end;
+            add_list(repo, &mut lists, chunks)?;
+            if lists.len() >= LISTS_AHEAD {
+                break;
+            }
+        }
+        Ok(lists)
     }
 
     /// The content of an item's chunk, which is the first of `later`, as the repository answers it. Where it isn't kept, those that follow
@@ -179,14 +199,18 @@ impl Walk {
 
 impl Walk {
     /// Chunks that are wanted next, of `chunks` and then of the items that follow. Where the first is small, the items aren't read for it.
-    fn chunks_ahead(&self, chunks: &[ChunkRef]) -> Result<Vec<ChunkRef>, AllocError> {
+    fn chunks_ahead(&self, repo: &Repo, chunks: &[ChunkRef]) -> Result<Vec<ChunkRef>, AllocError> {
         let mut wanted = Vec::new(self.alloc);
         let Some(first) = chunks.first() else {
             return Ok(wanted);
         };
-        wanted.extend_from_slice(&chunks[..min(chunks.len(), AHEAD)])?;
-        if first.size >= LARGE {
-            self.reader.chunks_ahead(AHEAD, &mut wanted)?;
+        add_chunks(chunks, &mut wanted)?;
+        if first.size < LARGE || wanted.len() >= AHEAD {
+            return Ok(wanted);
+        }
+        let lists = self.lists_ahead(repo)?;
+        for place in 0..lists.len() {
+            add_chunks(lists[place].as_slice(), &mut wanted)?;
         }
         Ok(wanted)
     }
@@ -265,4 +289,26 @@ impl Walk {
             Err(_) => Ending::Cut,
         };
     }
+}
+
+/// Adds an item's chunks, where it has content that isn't passed over.
+fn add_list(
+    repo: &Repo,
+    lists: &mut Vec<ChunkRefs>,
+    chunks: Option<ChunkRefs>,
+) -> Result<(), AllocError> {
+    let Some(chunks) = chunks else {
+        return Ok(());
+    };
+    if repo.passes_over(chunks.as_slice()) {
+        drop(chunks);
+        return Ok(());
+    }
+    Ok(lists.push(chunks)?)
+}
+
+/// Adds the first of these chunks, until as many are wanted as are read ahead at most.
+fn add_chunks(chunks: &[ChunkRef], wanted: &mut Vec<ChunkRef>) -> Result<(), AllocError> {
+    let room = AHEAD.saturating_sub(wanted.len());
+    wanted.extend_from_slice(&chunks[..min(chunks.len(), room)])
 }

@@ -36,10 +36,10 @@ use Rattle.ferry_repo.proofs.ComesLemmas.{whole_comes}
 use Rattle.ferry_repo.proofs.ContentLemmas.{one_record}
 use Rattle.ferry_repo.proofs.WalkLawLemmas.{one_comes}
 use Rattle.ferry_repo.proofs.WholeLemmas.{one_whole}
-use Rattle.ferry_repo.specs.Archives.{HoldsRecord}
+use Rattle.ferry_repo.specs.Archives.{HoldsRecord, ContentsCome, HoldsJoined}
 use Rattle.ferry_repo.specs.Opening.{RepoState}
 use Rattle.ferry_repo.specs.Walk.{Comes}
-use Rattle.ferry_repo.specs.Whole.{ContentsCome, HoldsItem, HoldsJoined, WholeArchive, WholeItem, WholesCome}
+use Rattle.ferry_repo.specs.Whole.{HoldsItem, WholeArchive, WholeItem, WholesCome}
 use Rattle.ferry_store.specs.Init.{IsTooLarge}
 use Rattle.ferry_store.specs.New.{first_manifest}
 use Rattle.ferry_write.proofs.StandLemmas.{all-append}

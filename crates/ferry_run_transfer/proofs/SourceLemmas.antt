@@ -6,6 +6,7 @@ use Rattle.ferry_disk.specs.Act.{files_now}
 use Rattle.ferry_disk.specs.Device.{Heard, KeepsTold, Told, heard_of, told_files}
 use Rattle.ferry_disk.specs.Files.{Files}
 use Rattle.ferry_repo.proofs.LawLemmas.{opens_fits}
+use Rattle.ferry_repo.specs.Cached.{no_contents}
 use Rattle.ferry_repo.specs.Fault.{repo_failed}
 use Rattle.ferry_repo.specs.Opening.{FitsRepo, OpensFilesTo, cached_in, repo_view}
 use Rattle.ferry_repo.specs.declared.repo.Repo.{Repo}
@@ -46,7 +47,7 @@ source_opens (Some told) (Some now) repo secret opens same =
 
 -- it fits the files
 pub source_fits : (told : Option Told) (repo : Repo) (secret : Secret) → IfSome told (λ t. OpensFilesTo (told_files t) secret (repo_view repo))
-    → cached_in repo ≡ [] → IfSome told (λ t. FitsRepo (told_files t) (repo_view repo) (cached_in repo))
+    → cached_in repo ≡ no_contents → IfSome told (λ t. FitsRepo (told_files t) (repo_view repo) (cached_in repo))
 source_fits None repo secret opens cached = tt
 source_fits (Some told) repo secret opens cached =
     subst (FitsRepo (told_files told) (repo_view repo)) (sym cached) (opens_fits (told_files told) secret (repo_view repo) opens)

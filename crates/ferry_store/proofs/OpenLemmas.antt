@@ -19,6 +19,7 @@ use Rattle.ferry_log.specs.declared.place.Place.{Place}
 use Rattle.ferry_nonce.specs.Counter.{KeepsNumbers}
 use Rattle.ferry_nonce.specs.declared.counter.Counter.{Counter}
 use Rattle.ferry_repo.proofs.LawLemmas.{opens_fits}
+use Rattle.ferry_repo.specs.Cached.{no_contents}
 use Rattle.ferry_repo.specs.Fault.{repo_failed}
 use Rattle.ferry_repo.specs.Opening.{FitsRepo, OpensBare, OpensFilesTo, RepoState, cached_in, repo_view}
 use Rattle.ferry_repo.specs.declared.fault.RepoFault.{RepoFault}
@@ -136,7 +137,7 @@ cleared_fit state h g e clears fits =
 -- ---- the end
 
 -- a store that was opened, whatever its manifest is
-store_found : (counts : Bool) (store : Store) (h g : History) (reads : IsStateOf (files_now h) (repo_view store.repo).log) → cached_in store.repo ≡ []
+store_found : (counts : Bool) (store : Store) (h g : History) (reads : IsStateOf (files_now h) (repo_view store.repo).log) → cached_in store.repo ≡ no_contents
     → Begins (Some (repo_view store.repo).log.transaction) store.counter store.session h g
     → ClearsAll (Some (repo_view store.repo).log.transaction) h g → store.session.after ≡ Some (repo_view store.repo).log.transaction
     → h.acts ≡ [] → (counts ≡ true → IsKept h)
@@ -153,7 +154,7 @@ store_found counts store h g reads empty begins clears after e kept =
       record {
         written = found (Some entries) (files_now h);
         under_way = u;
-        repo = subst (FitsRepo files (repo_view store.repo)) (sym empty) (record { log = fits; cached = tt });
+        repo = subst (FitsRepo files (repo_view store.repo)) (sym empty) (record { log = fits; cached = tt; noted = tt });
         below = omega (arith, ap behind after);
         holds = λ id blob apart. (λ live. ((holds id blob apart).1 live, refl), λ has. (holds id blob apart).0 has.0);
         manifest = λ no. absurd (let false_is : ⊥ = cc in false_is);
@@ -162,7 +163,7 @@ store_found counts store h g reads empty begins clears after e kept =
       refl,
     )
 
-store_bare : (store : Store) (h g : History) → IsStateOf (files_now h) (repo_view store.repo).log → cached_in store.repo ≡ []
+store_bare : (store : Store) (h g : History) → IsStateOf (files_now h) (repo_view store.repo).log → cached_in store.repo ≡ no_contents
     → Begins (Some (repo_view store.repo).log.transaction) store.counter store.session h g
     → ClearsAll (Some (repo_view store.repo).log.transaction) h g → store.session.after ≡ Some (repo_view store.repo).log.transaction
     → BareFits store h g
@@ -176,7 +177,7 @@ store_bare store h g reads empty begins clears after counts e kept =
       found_is = both.1;
     }
 
-store_opened : (secret : Secret) (store : Store) (h g : History) → OpensFilesTo (files_now h) secret (repo_view store.repo) → cached_in store.repo ≡ []
+store_opened : (secret : Secret) (store : Store) (h g : History) → OpensFilesTo (files_now h) secret (repo_view store.repo) → cached_in store.repo ≡ no_contents
     → Begins (Some (repo_view store.repo).log.transaction) store.counter store.session h g
     → ClearsAll (Some (repo_view store.repo).log.transaction) h g → store.session.after ≡ Some (repo_view store.repo).log.transaction
     → store.opened.keys ≡ [] → store.pending ≡ 0 → OpenFits store h g
@@ -198,7 +199,7 @@ store_opened secret store h g opens empty begins clears after none uncounted cou
       fits = record {
         written = found (Some entries) (files_now h);
         under_way = u;
-        repo = subst (FitsRepo files repo) (sym empty) (record { log = fits; cached = tt });
+        repo = subst (FitsRepo files repo) (sym empty) (record { log = fits; cached = tt; noted = tt });
         below = omega (arith, ap behind after);
         there = λ id apart known. absurd (nothing_known store id none_learnt none apart known);
         holds = holds_opened files repo.log entries (fits_state files repo.log entries fits none_learnt at) (suc repo.log.transaction, at);
@@ -298,7 +299,7 @@ begun_end {R} {T} P End read x store a b c n m k state ends same caused opens fi
     (did_also {T = Counter × Session} (BeginsSound after) SettlesFirst (λ x. Begins after x.0 x.1) b c m k (Ok both) first p)))
 
 pub open_begun : (secret : Secret) (store : Store) (a b c : Option Told) (n m k : ℕ) → KeepsTold {F = RepoFault} repo_failed a b (Ok store.repo) → m ≡ n
-    → IfSome a (λ t. OpensFilesTo (told_files t) secret (repo_view store.repo)) → cached_in store.repo ≡ []
+    → IfSome a (λ t. OpensFilesTo (told_files t) secret (repo_view store.repo)) → cached_in store.repo ≡ no_contents
     → store.session.after ≡ Some (repo_view store.repo).log.transaction → store.opened.keys ≡ [] → store.pending ≡ 0 → Between b c SettlesFirst
     → Between b c (ClearsAll (Some (repo_view store.repo).log.transaction))
     → Did {T = Counter × Session} (BeginsSound (Some (repo_view store.repo).log.transaction))
@@ -315,7 +316,7 @@ bare_reads files secret repo None opens = opens.opens.unlocks.reads
 bare_reads files secret repo (Some fault) opens = opens.unlocks.reads
 
 bare_ends : (secret : Secret) (store : Store) (fault : Option RepoFault) (h g : History) → OpensBare (files_now h) secret (repo_view store.repo) fault
-    → cached_in store.repo ≡ [] → Begins (Some (repo_view store.repo).log.transaction) store.counter store.session h g
+    → cached_in store.repo ≡ no_contents → Begins (Some (repo_view store.repo).log.transaction) store.counter store.session h g
     → ClearsAll (Some (repo_view store.repo).log.transaction) h g → store.session.after ≡ Some (repo_view store.repo).log.transaction
     → store.opened.keys ≡ [] → store.pending ≡ 0 → OpenBareFits (store, fault) h g
 bare_ends secret store None h g opens empty begins clears after none uncounted =
@@ -324,7 +325,7 @@ bare_ends secret store (Some fault) h g opens empty begins clears after none unc
 
 pub bare_begun : (secret : Secret) (store : Store) (fault : Option RepoFault) (a b c : Option Told) (n m k : ℕ)
     → KeepsTold {T = Repo × Option RepoFault} {F = RepoFault} repo_failed a b (Ok (store.repo, fault)) → m ≡ n
-    → IfSome a (λ t. OpensBare (told_files t) secret (repo_view store.repo) fault) → cached_in store.repo ≡ []
+    → IfSome a (λ t. OpensBare (told_files t) secret (repo_view store.repo) fault) → cached_in store.repo ≡ no_contents
     → store.session.after ≡ Some (repo_view store.repo).log.transaction → store.opened.keys ≡ [] → store.pending ≡ 0 → Between b c SettlesFirst
     → Between b c (ClearsAll (Some (repo_view store.repo).log.transaction))
     → Did {T = Counter × Session} (BeginsSound (Some (repo_view store.repo).log.transaction))

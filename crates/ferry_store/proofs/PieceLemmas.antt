@@ -6,7 +6,7 @@ use Rattle.std.proofs.lemmas.Bool.{cases_lt, lt-ltb, le-ltb}
 use Rattle.std.proofs.lemmas.List.{map-set, length-map, length-drop, length-take, take-append-drop}
 use Rattle.std.specs.Borrow.{Bor}
 use Rattle.std.specs.Prelude.{nat_lt}
-use Rattle.ferry_mac.specs.Many.{nth_text}
+use Rattle.ferry_mac.specs.Lanes.{nth_text}
 use Rattle.ferry_base.specs.Limits.{zero_id}
 use Rattle.ferry_blob.proofs.BlobLemmas.{content-decrypted, length-decrypted}
 use Rattle.ferry_blob.proofs.CallerLemmas.{length-opened}

@@ -20,6 +20,7 @@ use Rattle.ferry_nonce.proofs.MomentLemmas.{numbers_begun}
 use Rattle.ferry_nonce.specs.Counter.{KeepsNumbers}
 use Rattle.ferry_nonce.specs.declared.counter.Counter.{Counter}
 use Rattle.ferry_repo.proofs.LawLemmas.{opens_fits, repo_apart}
+use Rattle.ferry_repo.specs.Cached.{no_contents}
 use Rattle.ferry_repo.specs.Fault.{IsOfFiles, repo_failed}
 use Rattle.ferry_repo.specs.declared.fault.RepoFault.{RepoFault}
 use Rattle.ferry_repo.specs.declared.fault.RepoFault.TheVariants as Repos
@@ -146,7 +147,7 @@ makes_files secret iterations timestamp bytes counter session h g none made e =
 
 pub store_fits : (secret : Secret) (iterations : ℕ) (timestamp bytes : List ℕ) (store : Store) (h g : History) → IsUncommitted (files_now h)
     → IsMadeBy secret iterations timestamp bytes store.counter store.session h g → OpensFilesTo (files_now g) secret (repo_view store.repo)
-    → cached_in store.repo ≡ [] → store.opened.keys ≡ [] → store.pending ≡ 0 → InitFits store h g
+    → cached_in store.repo ≡ no_contents → store.opened.keys ≡ [] → store.pending ≡ 0 → InitFits store h g
 store_fits secret iterations timestamp bytes store h g none made opens empty unopened uncounted counts e kept =
     let repo = repo_view store.repo in
     let files = files_now g in
@@ -269,7 +270,7 @@ init_unopened secret iterations timestamp bytes x fault a c d n k j p same cause
 pub init_opened : (secret : Secret) (iterations : ℕ) (timestamp bytes : List ℕ) (store : Store) (a c d : Option Told) (n k j : ℕ)
     → Did (InitEach secret) (MadeOf secret iterations timestamp bytes) a c n k (Ok (store.counter, store.session))
     → KeepsTold {F = RepoFault} repo_failed c d (Ok store.repo) → j ≡ k → IfSome c (λ t. OpensFilesTo (told_files t) secret (repo_view store.repo))
-    → cached_in store.repo ≡ [] → store.opened.keys ≡ [] → store.pending ≡ 0 → Did (InitEach secret) InitFits a d n j (Ok store)
+    → cached_in store.repo ≡ no_contents → store.opened.keys ≡ [] → store.pending ≡ 0 → Did (InitEach secret) InitFits a d n j (Ok store)
 init_opened secret iterations timestamp bytes store a c d n k j p same caused opens empty unopened uncounted =
     did_then (InitEach secret) (MadeOf secret iterations timestamp bytes) Reads
     (λ (s : Store) h g. OpensFilesTo (files_now h) secret (repo_view store.repo) × ((s ≡ store) × Reads h g)) (InitEach secret) InitFits a c d n k j

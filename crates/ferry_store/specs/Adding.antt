@@ -37,6 +37,10 @@ abbrev pub Checkpoints : Store → Store → History → History → Type 0
 Checkpoints store store_now before now = (counts : Bool) (fits : StoreFits counts store before)
     → (fits_now : StoreFits counts store_now now) × (fits_now.written ≡ all_committed fits.written)
 
+-- A content of this id is there, by what was put or opened, and is answered without a call of the depot.
+abbrev pub IsAnswered : Store → List ℕ → Type 0
+IsAnswered store id = IsKnown store id × (IsNew (repo_view store.repo) id → ⊥)
+
 -- Why a content isn't added: where it is new, it isn't put; where it was live at opening, it doesn't open.
 abbrev pub RefusesAdd : Store → List ℕ → Files → StoreRefusal → Type 0
 RefusesAdd store content files (Repo Repos.Device) = Unit {0}

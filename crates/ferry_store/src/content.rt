@@ -7,6 +7,7 @@ ghost use Rattle.ferry_disk.specs.Device.{HasCause, KeepsTold, told_files};
 ghost use Rattle.ferry_disk.specs.Image.{settled};
 ghost use Rattle.ferry_disk.specs.Moments.{Between};
 ghost use Rattle.ferry_log.specs.Live.{key_cmp};
+ghost use Rattle.ferry_repo.specs.Fault.{IsOfFiles, repo_failed};
 ghost use Rattle.ferry_repo.specs.Objects.{IsMissing};
 ghost use Rattle.ferry_repo.specs.Opening.{FitsRepo, cached_in, repo_view};
 ghost use Rattle.ferry_segment.specs.Entry.{PutEntry};
@@ -23,13 +24,17 @@ ghost use Rattle.ferry_write.specs.declared.fault.WriteFault.TheVariants as Writ
 
 use crate::fault::StoreRefusal;
 use crate::put::put_object;
-use ferry_base::Id;
+use ferry_base::{Id, ZERO_ID};
 use ferry_disk::Depot;
 use ferry_nonce::Counter;
-use ferry_repo::Repo;
+use ferry_repo::{Repo, RepoFault};
 use ferry_write::Session;
 use std::alloc::AllocError;
+use std::cmp::min;
 use std::collections::BTreeSet;
+
+/// How many contents are read side by side at most.
+const AHEAD: usize = 24;
 
 /// What adding a content answers: the id of the content, and whether it was put.
 #[derive(Clone, Copy, Debug, PartialEq, Eq)]
@@ -94,12 +99,14 @@ pub(crate) fn put_content<D: Depot>(
     Ok(())
 }
 
-/// Opens the content of an id that is live, and notes the id.
+/// Opens the content of an id that is live, and notes the id. Where it isn't kept, those of `later` that will be opened are read with it, side
+/// by side.
 pub(crate) fn open_content<D: Depot>(
     depot: &mut D,
     repo: &mut Repo,
     opened: &mut BTreeSet<Id>,
     id: Id,
+    later: &[Id],
 ) -> Result<(), StoreRefusal>
     requires fits { IfSome (D.told depot.old) (λ t. FitsRepo (told_files t) (repo_view repo.old) (cached_in repo.old)) }
     requires chunk { id ≢ zero_id }
@@ -116,9 +123,55 @@ pub(crate) fn open_content<D: Depot>(
     ensures same { KeepsTold depot_failed (D.told depot.old) (D.told depot.new) result }
     ensures cause { HasCause depot_failed (D.faults depot.old) (D.faults depot.new) result }
 {
+    read_later(depot, repo, opened, &id, later)?;
     repo.chunk(depot, &id)?;
     note(opened, id)?;
     Ok(())
+}
+
+/// Brings the content of an id and those of the ids behind it that are live and weren't opened among those that the repository keeps, where the
+/// first isn't there. Only time depends on it: the call that opens a content says what is wrong with it.
+fn read_later<D: Depot>(
+    depot: &mut D,
+    repo: &mut Repo,
+    opened: &BTreeSet<Id>,
+    id: &Id,
+    later: &[Id],
+) -> Result<(), RepoFault>
+    requires fits { IfSome (D.told depot.old) (λ t. FitsRepo (told_files t) (repo_view repo.old) (cached_in repo.old)) }
+    ensures refused { IfErr result (λ fault. IsOfFiles fault → ⊥) }
+    ensures fits { IfSome (D.told depot.new) (λ t. FitsRepo (told_files t) (repo_view repo.new) (cached_in repo.new)) }
+    ensures kept { repo_view repo.new ≡ repo_view repo.old }
+    ensures same { KeepsTold repo_failed (D.told depot.old) (D.told depot.new) result }
+    ensures cause { HasCause repo_failed (D.faults depot.old) (D.faults depot.new) result }
+{
+    if later.is_empty() || repo.kept_content(id).is_some() {
+        return Ok(());
+    }
+    let (ids, count) = ids_ahead(repo, opened, id, later);
+    repo.read_ahead(depot, &ids[..min(count, AHEAD)], 0)
+}
+
+/// An id, and those of the ids behind it that are live and weren't opened, with how many that are: as many as are read ahead at most.
+fn ids_ahead(repo: &Repo, opened: &BTreeSet<Id>, id: &Id, later: &[Id]) -> ([Id; AHEAD], usize) {
+    let mut ids = [ZERO_ID; AHEAD];
+    ids[0] = *id;
+    let mut count = 1;
+    for place in 0..later.len() {
+        if count >= AHEAD {
+            break;
+        }
+        if is_to_open(repo, opened, &later[place]) {
+            ids[count] = later[place];
+            count += 1;
+        }
+    }
+    (ids, count)
+}
+
+/// Whether the content of an id is live since the opening, and wasn't opened.
+fn is_to_open(repo: &Repo, opened: &BTreeSet<Id>, id: &Id) -> bool {
+    repo.log().find(id).is_some() && !repo.log().has_learnt(id) && !opened.contains(id)
 }
 
 /// Takes an id in. A refused call leaves the ids as they were.

@@ -12,11 +12,12 @@ ghost use Rattle.ferry_manifest.specs.Manifest.Text.{manifest_view};
 ghost use Rattle.ferry_manifest.specs.Manifest.Writing.{IsPackable, manifest_text};
 ghost use Rattle.ferry_next.specs.Next.{next_manifest, without_entry, written_at};
 ghost use Rattle.ferry_repo.specs.Archives.{archive_named};
+ghost use Rattle.ferry_repo.specs.Cached.{no_contents};
 ghost use Rattle.ferry_repo.specs.Objects.{IsMissing};
 ghost use Rattle.ferry_repo.specs.Opening.{OpensBare, OpensFilesTo, cached_in, mode_of, repo_view};
 ghost use Rattle.ferry_repo.specs.contracts.repo.Repo.{the_row as row_of_repo};
 ghost use Rattle.ferry_stops.specs.Tells.{TellsNothing};
-ghost use Rattle.ferry_store.specs.Adding.{Adds, Checkpoints, RefusesAdd, id_under, pending_after};
+ghost use Rattle.ferry_store.specs.Adding.{IsAnswered, Adds, Checkpoints, RefusesAdd, id_under, pending_after};
 ghost use Rattle.ferry_store.specs.Causes.{Stops, StopsAt};
 ghost use Rattle.ferry_store.specs.Commit.{Commits, CommitsEntry, HasCommitted, IsUnspentBy, RefusesManifestOf, accepted_in, manifest_entry};
 ghost use Rattle.ferry_blob.specs.Batch.{IsSealable, bytes_at, id_at};
@@ -109,7 +110,7 @@ impl Store {
         // The source of random bytes counted a fault exactly where it is the answer.
         ensures entropy { HasCause source_failed (E.faults entropy.old) (E.faults entropy.new) result }
         // No content is kept in memory, and no entry counts as put.
-        ensures fresh { IfOk result (λ store. (cached_in store.repo ≡ []) × (store.pending ≡ 0)) }
+        ensures fresh { IfOk result (λ store. (cached_in store.repo ≡ no_contents) × (store.pending ≡ 0)) }
         // What is accepted is the manifest of the repository.
         ensures accepted { IfOk result (λ store. accepted_in store ≡ (repo_view store.repo).manifest) }
         ensures unspent { IfOk result IsUnspent }
@@ -163,7 +164,7 @@ impl Store {
         // The repository doesn't open; or it does, and the file `nonce` is absent or has no number; or a device failed.
         ensures refused { IfErr result (λ refusal. IfSome (D.told depot.old) (λ t. RefusesOpen secret.now (told_files t) refusal)) }
         // No content is kept in memory, and no entry counts as put.
-        ensures fresh { IfOk result (λ store. (cached_in store.repo ≡ []) × (store.pending ≡ 0)) }
+        ensures fresh { IfOk result (λ store. (cached_in store.repo ≡ no_contents) × (store.pending ≡ 0)) }
         // What is accepted is the manifest of the repository.
         ensures accepted { IfOk result (λ store. accepted_in store ≡ (repo_view store.repo).manifest) }
         // A refusal isn't one of the source of random bytes.
@@ -207,7 +208,7 @@ impl Store {
         ensures untold { Between (D.told depot.old) (D.told depot.new) TellsNothing }
         // As of `open`, and no fault of the manifest is among them.
         ensures refused { IfErr result (λ refusal. IfSome (D.told depot.old) (λ t. RefusesOpenBare secret.now (told_files t) refusal)) }
-        ensures fresh { IfOk result (λ both. (cached_in both.0.repo ≡ []) × (both.0.pending ≡ 0)) }
+        ensures fresh { IfOk result (λ both. (cached_in both.0.repo ≡ no_contents) × (both.0.pending ≡ 0)) }
         ensures accepted { IfOk result (λ both. accepted_in both.0 ≡ (repo_view both.0.repo).manifest) }
         ensures drawn { IfErr result (λ refusal. source_failed refusal ≡ false) }
         ensures unspent { IfOk result (λ both. IsUnspent both.0) }
@@ -274,6 +275,14 @@ impl Store {
         ensures new { IsTrue result ↔ IsNew (repo_view self.now.repo) id.now }
     {
         self.is_new(id)
+    }
+
+    /// Whether a content of this id is there, and was put or opened since the store was opened: `add` of it would answer without a call of
+    /// the depot.
+    pub fn knows(&self, id: &Id) -> bool
+        ensures answered { IsTrue result → IsAnswered self.now id.now }
+    {
+        !self.is_new(id) && self.is_known(id)
     }
 
     /// Prepares up to 64 contents, each of which stands behind byte 43 of its buffer: their ids are worked out side by side, and the first of them that are
@@ -387,17 +396,19 @@ impl Store {
         if self.is_known(&id) {
             return Ok(Added { id, new: false });
         }
-        self.add_old(depot, id)
+        self.add_old(depot, id, &[])
     }
 
     /// Adds the content of a buffer that `prepare` has prepared, as `add` does. Where the buffer is a blob already, and of the counter blocks
-    /// that are free now, it is put as it is; and else it is sealed, in place. What stands in the buffer behind the call isn't said.
+    /// that are free now, it is put as it is; and else it is sealed, in place. What stands in the buffer behind the call isn't said. `later` are ids
+    /// of contents that are added next: where this one is opened, those of them that will be are opened beside it. Only time depends on them.
     pub fn add_piece<D: Depot>(
         &mut self,
         depot: &mut D,
         id: Id,
         is_blob: bool,
         buffer: &mut [u8],
+        later: &[Id],
     ) -> Result<Added, StoreRefusal>
         requires prepared { IsPrepared (repo_view self.old.repo) id is_blob buffer.old }
         requires unspent { IsUnspent self.old }
@@ -460,7 +471,7 @@ impl Store {
         if self.is_known(&id) {
             return Ok(Added { id, new: false });
         }
-        self.add_old(depot, id)
+        self.add_old(depot, id, later)
     }
 
     /// Adds the content of a buffer, whose id isn't live.
@@ -517,8 +528,13 @@ impl Store {
         }
     }
 
-    /// Adds a content whose id was live at opening and wasn't opened since.
-    fn add_old<D: Depot>(&mut self, depot: &mut D, id: Id) -> Result<Added, StoreRefusal>
+    /// Adds a content whose id was live at opening and wasn't opened since. Those of `later` that will be opened are read with it.
+    fn add_old<D: Depot>(
+        &mut self,
+        depot: &mut D,
+        id: Id,
+        later: &[Id],
+    ) -> Result<Added, StoreRefusal>
         requires unspent { IsUnspent self.old }
         requires chunk { id ≢ zero_id }
         requires unknown { IsKnown self.old id → ⊥ }
@@ -545,7 +561,7 @@ impl Store {
         ensures limit { HasLimit self.old → HasLimit self.new }
         ensures spent { IfErr result (λ refusal. self.new.spent ≡ spends refusal) }
     {
-        match open_content(depot, &mut self.repo, &mut self.opened, id) {
+        match open_content(depot, &mut self.repo, &mut self.opened, id, later) {
             Ok(()) => Ok(Added { id, new: false }),
             Err(refusal) => Err(self.spend(refusal)),
         }

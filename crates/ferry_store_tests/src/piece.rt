@@ -113,7 +113,7 @@ fn add_each<D: Depot>(
     let mut put = [false; MOST];
     for place in 0..buffers.len() {
         let buffer = buffers[place].as_mut_slice();
-        let added = store.add_piece(depot, ids[place], place < blobs, buffer)?;
+        let added = store.add_piece(depot, ids[place], place < blobs, buffer, &ids[place + 1..])?;
         put[place] = added.new;
     }
     Ok(put)

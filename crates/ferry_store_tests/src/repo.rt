@@ -226,8 +226,7 @@ fn is_damaged(opened: &mut Opened) -> bool {
 /// Whether sixteen contents are answered, also behind a content of another size, which is read, and neither kept nor answered, and where their
 /// blobs are gone.
 fn are_kept(alloc: Global, opened: &mut Opened) -> bool {
-    has(opened, SMALL[0], &[0])
-        && has_sixteen(opened)
+    has_sixteen(opened)
         && is_of_wrong_size(opened)
         && leave_magic(alloc, &mut opened.shelf)
         && is_damaged(opened)

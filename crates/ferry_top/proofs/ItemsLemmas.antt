@@ -6,7 +6,7 @@ use Rattle.ferry_disk.specs.Device.{Told, RoseWhere, told_files, heard}
 use Rattle.ferry_disk.proofs.DeviceLemmas.{told_same, told_then, told_with}
 use Rattle.ferry_repo.proofs.LawLemmas.{opens_fits}
 use Rattle.ferry_repo.specs.Fault.{IsOfFiles}
-use Rattle.ferry_repo.specs.Cached.{Contents}
+use Rattle.ferry_repo.specs.Cached.{Contents, no_contents}
 use Rattle.ferry_repo.specs.Opening.{RepoState, OpensFilesTo, FitsRepo}
 use Rattle.ferry_repo.specs.declared.fault.RepoFault.{RepoFault}
 use Rattle.ferry_repo.specs.declared.fault.RepoFault.TheVariants as Repo
@@ -32,7 +32,7 @@ opens_with source later secret repo Holds same opens holds =
     (λ f o h. record { repo = repo; opens = o; holds = h }) opens holds
 
 -- an opened repository fits what a later call tells
-pub fits_later : (source later : Option Told) (secret : Secret) (repo : RepoState) (cached : Contents) → heard later ≡ heard source → cached ≡ []
+pub fits_later : (source later : Option Told) (secret : Secret) (repo : RepoState) (cached : Contents) → heard later ≡ heard source → cached ≡ no_contents
     → IfSome source (λ t. OpensFilesTo (told_files t) secret repo) → IfSome later (λ t. FitsRepo (told_files t) repo cached)
 fits_later source later secret repo cached same none opens =
     told_same source later (λ f. FitsRepo f repo cached) same

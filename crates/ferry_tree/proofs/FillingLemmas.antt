@@ -6,9 +6,8 @@ use Rattle.ferry_disk.specs.Device.{Told, told_files, heard}
 use Rattle.ferry_disk.proofs.DeviceLemmas.{told_any, told_with}
 use Rattle.ferry_item.specs.Stream.{joined}
 use Rattle.ferry_item.specs.declared.item.ChunkRef.{ChunkRef}
-use Rattle.ferry_repo.specs.Archives.{HoldsContent, RefusesContent}
+use Rattle.ferry_repo.specs.Archives.{HoldsContent, RefusesContent, ContentsCome}
 use Rattle.ferry_repo.specs.Opening.{RepoState}
-use Rattle.ferry_repo.specs.Whole.{ContentsCome}
 use Rattle.ferry_repo.specs.declared.fault.RepoFault.{RepoFault}
 use Rattle.ferry_view.proofs.FileLemmas.{joined_one, contents_next, contents_refused}
 use Rattle.ferry_tree.specs.Filling.{appended, WritesPart, FillsAll, FillsPart, RefusesFilling}

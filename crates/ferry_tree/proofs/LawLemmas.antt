@@ -6,7 +6,8 @@ use Rattle.ferry_item.specs.Stream.{joined}
 use Rattle.ferry_item.specs.declared.item.ChunkRef.{ChunkRef}
 use Rattle.ferry_repo.specs.Opening.{RepoState}
 use Rattle.ferry_repo.specs.Walk.{WalkState, IsToCome}
-use Rattle.ferry_repo.specs.Whole.{ContentsCome, HoldsJoined, WholeArchive, WholeItem, WholesCome, IsWhole}
+use Rattle.ferry_repo.specs.Archives.{ContentsCome, HoldsJoined}
+use Rattle.ferry_repo.specs.Whole.{WholeArchive, WholeItem, WholesCome, IsWhole}
 use Rattle.ferry_repo.specs.declared.fault.RepoFault.{RepoFault}
 use Rattle.ferry_repo.proofs.ComesLemmas.{whole_comes}
 use Rattle.ferry_repo.proofs.ContentLemmas.{one_contents}

@@ -9,7 +9,7 @@ use Rattle.ferry_log.specs.State.{FitsFiles}
 use Rattle.ferry_repo.specs.Fault.{IsOfFiles}
 use Rattle.ferry_repo.specs.Opening.{RepoState}
 use Rattle.ferry_repo.specs.Walk.{WalkState, IsToCome, LeadsOn, FitsWalk}
-use Rattle.ferry_repo.specs.Whole.{ContentsCome}
+use Rattle.ferry_repo.specs.Archives.{ContentsCome}
 use Rattle.ferry_repo.specs.declared.fault.RepoFault.{RepoFault}
 use Rattle.ferry_repo.proofs.WalkLawLemmas.{some_to_come}
 use Rattle.ferry_view.specs.Steps.{Answers}

@@ -7,7 +7,8 @@ use Rattle.ferry_msgpack.specs.Tree.{Tree}
 use Rattle.ferry_repo.proofs.ComesLemmas.{whole_comes}
 use Rattle.ferry_repo.specs.Opening.{RepoState}
 use Rattle.ferry_repo.specs.Walk.{Comes, IsToCome, begin_walk}
-use Rattle.ferry_repo.specs.Whole.{ContentsCome, HoldsJoined, HoldsItem, IsWhole, WholeArchive, WholeItem, WholesCome}
+use Rattle.ferry_repo.specs.Archives.{ContentsCome, HoldsJoined}
+use Rattle.ferry_repo.specs.Whole.{HoldsItem, IsWhole, WholeArchive, WholeItem, WholesCome}
 use Rattle.ferry_tree.specs.Growth.{ReadItem}
 use Rattle.ferry_tree.specs.Restoring.{AreRead, read_as}
 use Rattle.ferry_tree.specs.Wholes.{AreOf, IsOf, ReadsWhole}

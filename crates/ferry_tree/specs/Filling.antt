@@ -6,7 +6,7 @@ use Rattle.ferry_item.specs.Stream.{joined}
 use Rattle.ferry_item.specs.declared.item.ChunkRef.{ChunkRef}
 use Rattle.ferry_repo.specs.Fault.{IsOfFiles}
 use Rattle.ferry_repo.specs.Opening.{RepoState}
-use Rattle.ferry_repo.specs.Whole.{ContentsCome}
+use Rattle.ferry_repo.specs.Archives.{ContentsCome}
 use Rattle.ferry_tree.specs.Growth.{filled}
 use Rattle.ferry_tree.specs.Nodes.{Placed, Planted, write_last}
 use Rattle.ferry_tree.specs.declared.fault.RestoreFault.{RestoreFault}

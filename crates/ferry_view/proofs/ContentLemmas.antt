@@ -7,11 +7,10 @@ use Rattle.ferry_disk.proofs.DeviceLemmas.{told_any, told_then, told_with}
 use Rattle.ferry_item.specs.Stream.{joined}
 use Rattle.ferry_item.specs.declared.item.ChunkRef.{ChunkRef}
 use Rattle.ferry_log.specs.State.{FitsFiles}
-use Rattle.ferry_repo.specs.Archives.{HoldsContent, RefusesContent}
+use Rattle.ferry_repo.specs.Archives.{HoldsContent, RefusesContent, ContentsCome}
 use Rattle.ferry_repo.specs.Fault.{IsOfFiles}
 use Rattle.ferry_repo.specs.Opening.{RepoState}
 use Rattle.ferry_repo.specs.Walk.{WalkState}
-use Rattle.ferry_repo.specs.Whole.{ContentsCome}
 use Rattle.ferry_repo.specs.declared.fault.RepoFault.{RepoFault}
 use Rattle.ferry_repo.specs.declared.fault.RepoFault.TheVariants as Fault
 use Rattle.ferry_view.specs.Output.{IsOfArchive, ShowsAll, ShowsSome, repo_fault}

@@ -7,11 +7,11 @@ use Rattle.ferry_item.specs.Item.{ItemText}
 use Rattle.ferry_item.specs.Stream.{joined}
 use Rattle.ferry_item.specs.declared.item.ChunkRef.{ChunkRef}
 use Rattle.ferry_log.specs.State.{FitsFiles}
-use Rattle.ferry_repo.specs.Archives.{HoldsContent, RefusesContent}
+use Rattle.ferry_repo.specs.Archives.{HoldsContent, RefusesContent, ContentsCome}
 use Rattle.ferry_repo.specs.Fault.{IsOfFiles}
 use Rattle.ferry_repo.specs.Opening.{RepoState}
 use Rattle.ferry_repo.specs.Walk.{WalkState, IsToCome}
-use Rattle.ferry_repo.specs.Whole.{ContentsCome, WholeItem, HoldsItem, WholesCome, Reading, ReadsArchive}
+use Rattle.ferry_repo.specs.Whole.{WholeItem, HoldsItem, WholesCome, Reading, ReadsArchive}
 use Rattle.ferry_repo.specs.declared.fault.RepoFault.{RepoFault}
 use Rattle.ferry_repo.proofs.ContentLemmas.{some_contents, contents_then}
 use Rattle.ferry_repo.proofs.WalkLawLemmas.{some_to_come}

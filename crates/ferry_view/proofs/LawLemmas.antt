@@ -6,10 +6,10 @@ use Rattle.ferry_item.specs.Stream.{joined}
 use Rattle.ferry_item.specs.declared.item.ChunkRef.{ChunkRef}
 use Rattle.ferry_log.specs.State.{FitsFiles}
 use Rattle.ferry_manifest.specs.declared.manifest.ArchiveRef.{ArchiveRef}
-use Rattle.ferry_repo.specs.Archives.{archive_named, RefusesRecord}
+use Rattle.ferry_repo.specs.Archives.{archive_named, RefusesRecord, ContentsCome, HoldsJoined}
 use Rattle.ferry_repo.specs.Fault.{IsOfFiles}
 use Rattle.ferry_repo.specs.Opening.{RepoState}
-use Rattle.ferry_repo.specs.Whole.{ContentsCome, HoldsJoined, WholeItem, WholesCome, Reading, ReadsArchive, RefusesArchive, no_item}
+use Rattle.ferry_repo.specs.Whole.{WholeItem, WholesCome, Reading, ReadsArchive, RefusesArchive, no_item}
 use Rattle.ferry_repo.specs.declared.fault.RepoFault.{RepoFault}
 use Rattle.ferry_repo.proofs.ContentLemmas.{one_contents}
 use Rattle.ferry_repo.proofs.WholeLemmas.{some_archive, one_archive, archive_apart, fault_of_files}

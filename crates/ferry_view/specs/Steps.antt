@@ -7,11 +7,10 @@ use Rattle.ferry_item.specs.Stream.{joined}
 use Rattle.ferry_item.specs.declared.item.ChunkRef.{ChunkRef}
 use Rattle.ferry_manifest.specs.Record.Text.{ArchiveText}
 use Rattle.ferry_manifest.specs.declared.manifest.ArchiveRef.{ArchiveRef}
-use Rattle.ferry_repo.specs.Archives.{archive_named, HoldsRecord, RefusesRecord}
+use Rattle.ferry_repo.specs.Archives.{archive_named, HoldsRecord, RefusesRecord, ContentsCome}
 use Rattle.ferry_repo.specs.Fault.{IsOfFiles}
 use Rattle.ferry_repo.specs.Opening.{RepoState}
 use Rattle.ferry_repo.specs.Walk.{WalkState, begin_walk, IsToCome, LeadsOn, FitsWalk}
-use Rattle.ferry_repo.specs.Whole.{ContentsCome}
 use Rattle.ferry_repo.specs.declared.fault.RepoFault.{RepoFault}
 use Rattle.ferry_view.specs.Items.{is_file, file_at}
 use Rattle.ferry_view.specs.Lines.{item_lines}

@@ -1,6 +1,6 @@
 -- What the packed bytes of a record mean, by the conditions of each answer.
 use Rattle.std.proofs.Common.{◌≡◌, ◌≢◌, ℕ, ◌<◌, ◌^◌, not, get_or, codes, is_none, is_some, unwrap_or, Bool, true, false, cond, ◌==◌, eqb→eq, List, []}
-use Rattle.std.proofs.Common.{◌∷◌, length, Option, Some, None, option_map, option_and_then, Result, Ok, Err, ◌⊎◌, inl, inr, refl, sym, ap, subst, ◌∙◌}
+use Rattle.std.proofs.Common.{◌∷◌, length, Option, Some, None, option_map, option_and_then, Result, Ok, Err, IfOk, ◌⊎◌, inl, inr, refl, sym, ap, subst, ◌∙◌}
 use Rattle.std.specs.Str.{bytes_eq}
 use Rattle.std.proofs.lemmas.Slice.Eq.{bytes_eq-Decides}
 use Rattle.ferry_mac.specs.declared.keys.Keys.{Keys}
@@ -10,11 +10,12 @@ use Rattle.ferry_fields.specs.Fields.{map_of, value_of, raw_in, has_version_1}
 use Rattle.ferry_fields.specs.Others.{is_among, without}
 use Rattle.ferry_fields.proofs.KeptLemmas.{has_among-without}
 use Rattle.ferry_manifest.specs.Record.Text.{ArchiveText, IsRecordFault, apart_names, archive_of, id_of, ids_in, items_at, lacks_record_field, record_from}
-use Rattle.ferry_manifest.specs.Record.Text.{record_text, unless_tag_differs}
+use Rattle.ferry_manifest.specs.Record.Text.{record_text, unless_tag_differs, archive_view}
 use Rattle.ferry_manifest.specs.Record.Writing.{AreIds, IsPackableArchive}
 use Rattle.ferry_manifest.specs.Stated.{IsTagged, StatesTag, is_right, tag_in}
 use Rattle.ferry_manifest.specs.Tag.{archive_info, tag_of}
 use Rattle.ferry_manifest.specs.Values.{raws}
+use Rattle.ferry_manifest.specs.declared.record.Archive.{Archive}
 use Rattle.ferry_manifest.specs.declared.fault.MetaFault.{MetaFault}
 use Rattle.ferry_manifest.specs.declared.fault.MetaFault.TheVariants.{Pack, Field, TagMissing, Tag, TooLarge, Memory}
 use Rattle.ferry_manifest.specs.declared.stated.StatedTag.{StatedTag}
@@ -339,3 +340,9 @@ pub read_packable : (keys : Keys) (bytes : List ℕ) (archive : ArchiveText) →
 read_packable keys bytes archive small e =
     let (all, is, whole, right, text) = record_read keys bytes archive e in
     subst IsPackableArchive text (text_packable all (map_writable bytes all small is) whole)
+
+-- what a call read can be packed
+pub packable_where_read : (keys : Keys) (bytes : List ℕ) (r : Result Archive MetaFault) → ((i : ℕ) → get_or bytes i 0 < 2 ^ 8)
+    → IfOk r (λ archive. archive_of keys bytes ≡ Ok (archive_view archive)) → IfOk r (λ archive. IsPackableArchive (archive_view archive))
+packable_where_read keys bytes (Ok archive) small read = read_packable keys bytes (archive_view archive) small read
+packable_where_read keys bytes (Err fault) small read = tt

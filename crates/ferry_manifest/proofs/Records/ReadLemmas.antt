@@ -1,59 +1,85 @@
--- Ids, read one after the other; what is read of a record can be packed.
-use Rattle.std.proofs.Common.{◌≡◌, ℕ, ◌+◌, ◌≤◌, ◌<◌, Bool, true, List, [], ◌∷◌, ◌++◌, length, get_or, drop, codes, Option, Some, None, option_map, refl}
-use Rattle.std.proofs.Common.{sym, ap, ◌∙◌, append_assoc, append-nil, arith}
-use Rattle.std.proofs.lemmas.List.{drop_all}
-use Rattle.ferry_msgpack.specs.declared.value.Value.{Value}
-use Rattle.ferry_msgpack.specs.Tree.{Tree, Items, table, Pairs}
-use Rattle.ferry_msgpack.specs.View.{value_view, items_view}
+-- A record from its parts; what is read of a record can be packed.
+use Rattle.std.proofs.Common.{◌≡◌, ℕ, ◌≤◌, Bool, true, false, cond, List, ◌∷◌, codes, Option, Some, None, option_map, option_and_then, refl, sym, ap}
+use Rattle.std.proofs.Common.{◌∙◌, arith}
+use Rattle.std.specs.Str.{bytes_eq}
+use Rattle.ferry_mac.specs.declared.keys.Keys.{Keys}
+use Rattle.ferry_msgpack.specs.Tree.{Tree, nil, flag, number, raw, array, table, Items, no_items, item, Pairs, no_pairs, pair}
+use Rattle.ferry_msgpack.specs.Apart.{Parts, contents_in, contents_of, contents_under, parted, raw32_of}
 use Rattle.ferry_msgpack.specs.Writable.{pairs_depth, PairsFit, IsWritable}
-use Rattle.ferry_fields.specs.Fields.{value_of, raw_in, has_version_1}
+use Rattle.ferry_fields.specs.Fields.{map_of, value_of, raw_in, has_version_1}
 use Rattle.ferry_fields.specs.Others.{without}
+use Rattle.ferry_fields.proofs.ApartLemmas.{value_of-blanked, without-blanked}
+use Rattle.ferry_fields.proofs.FieldLemmas.{value_of-here, value_of-other, value_of-none}
 use Rattle.ferry_fields.proofs.KeptLemmas.{value_of-without, without_writable, has_among-without}
+use Rattle.ferry_manifest.specs.Record.Apart.{record_apart}
 use Rattle.ferry_manifest.specs.Record.Writing.{AreParams, IsPackableArchive}
-use Rattle.ferry_manifest.specs.Record.Text.{apart_names, id_of, ids_in}
+use Rattle.ferry_manifest.specs.Record.Text.{apart_names, archive_of, id_of, ids_in, ids_of, record_from}
 use Rattle.ferry_manifest.proofs.Manifests.PackableLemmas.{IsInside, inside}
-use Rattle.ferry_manifest.proofs.Manifests.ReadLemmas.{items-drop}
 
--- ---- ids
+-- ---- a record with the value of `items` apart
 
--- these ids, and those of the values from here on
-unfoldable pub ids_with : List (List ℕ) → Items → Option (List (List ℕ))
-ids_with ids items = option_map (λ others. ids ++ others) (ids_in items)
+one_id : (t : Tree) (o : Option (List (List ℕ)))
+    → option_and_then (λ id. option_map (λ ids. id ∷ ids) o) (raw32_of t) ≡ option_and_then (λ id. option_map (λ ids. id ∷ ids) o) (id_of t)
+one_id nil o = refl
+one_id (flag b) o = refl
+one_id (number z) o = refl
+one_id (raw content) o = refl
+one_id (array items) o = refl
+one_id (table pairs) o = refl
 
-append_none : (o : Option (List (List ℕ))) → option_map (λ others. [] ++ others) o ≡ o
-append_none None = refl
-append_none (Some others) = refl
+contents_ids : (items : Items) → contents_in items ≡ ids_in items
+unfolding contents_in ids_in
+contents_ids no_items = refl
+contents_ids (item t ts) =
+    ap (λ (o : Option (List (List ℕ))). option_and_then (λ id. option_map (λ ids. id ∷ ids) o) (raw32_of t)) (contents_ids ts) ∙ one_id t (ids_in ts)
 
-pub ids_start : (vs : List Value) → ids_with [] (items_view (drop 0 vs)) ≡ ids_in (items_view vs)
-unfolding ids_with
-ids_start vs = append_none (ids_in (items_view vs))
+contents_of_ids : (t : Tree) → contents_of t ≡ ids_of t
+contents_of_ids nil = refl
+contents_of_ids (flag b) = refl
+contents_of_ids (number z) = refl
+contents_of_ids (raw content) = refl
+contents_of_ids (array items) = contents_ids items
+contents_of_ids (table pairs) = refl
 
-ids_after : (ids : List (List ℕ)) (id : List ℕ) (o : Option (List (List ℕ)))
-    → option_map (λ others. ids ++ others) (option_map (λ others. id ∷ others) o) ≡ option_map (λ others. (ids ++ id ∷ []) ++ others) o
-ids_after ids id None = refl
-ids_after ids id (Some others) = ap (λ all. Some all) (sym (append_assoc ids (id ∷ []) others))
+at_name : (name l : List ℕ) (t : Tree) (ps : Pairs) (b : Bool) → bytes_eq l name ≡ b → contents_under name ps ≡ option_and_then ids_of (value_of name ps)
+    → cond b (contents_of t) (contents_under name ps) ≡ option_and_then ids_of (value_of name (pair l t ps))
+at_name name l t ps true is rest = contents_of_ids t ∙ sym (ap (option_and_then ids_of) (value_of-here name l t ps is))
+at_name name l t ps false is rest = rest ∙ sym (ap (option_and_then ids_of) (value_of-other name l t ps is))
 
-pub ids_more : (ids : List (List ℕ)) (id : List ℕ) (vs : List Value) (place : ℕ) (v : Value) → place < length vs
-    → id_of (value_view (get_or vs place v)) ≡ Some id
-    → ids_with (ids ++ id ∷ []) (items_view (drop (place + 1) vs)) ≡ ids_with ids (items_view (drop place vs))
-unfolding ids_with ids_in
-ids_more ids id vs place v lt is =
-    let rest = ids_in (items_view (drop (place + 1) vs)) in
-    let here : ids_in (items_view (drop place vs)) ≡ option_map (λ others. id ∷ others) rest = rw (items-drop vs place v lt, is) refl in
-    rw here (sym (ids_after ids id rest))
+contents_under_ids : (name : List ℕ) (ps : Pairs) → contents_under name ps ≡ option_and_then ids_of (value_of name ps)
+unfolding contents_under
+contents_under_ids name no_pairs = sym (ap (option_and_then ids_of) (value_of-none name))
+contents_under_ids name (pair l t ps) = at_name name l t ps (bytes_eq l name) refl (contents_under_ids name ps)
 
--- a value that is no id
-pub ids_lost : (ids : List (List ℕ)) (vs : List Value) (place : ℕ) (v : Value) → place < length vs → id_of (value_view (get_or vs place v)) ≡ None
-    → ids_with ids (items_view (drop place vs)) ≡ ids_in (items_view vs) → ids_in (items_view vs) ≡ None
-unfolding ids_with ids_in
-ids_lost ids vs place v lt is so_far =
-    let here : ids_in (items_view (drop place vs)) ≡ None = rw (items-drop vs place v lt, is) refl in
-    let none : ids_with ids (items_view (drop place vs)) ≡ None = rw here refl in
-    sym so_far ∙ none
+abbrev some_parts : Parts → Option Parts
+some_parts x = Some x
 
-pub ids_done : (ids : List (List ℕ)) (vs : List Value) (place : ℕ) → length vs ≤ place → ids_with ids (items_view (drop place vs)) ≡ Some ids
-unfolding ids_with ids_in
-ids_done ids vs place le = rw (drop_all place vs le) (ap (λ all. Some all) (append-nil ids))
+some_same : (x y : Parts) → some_parts x ≡ some_parts y → x ≡ y
+some_same x y e = cc
+
+same_record : (keys : Keys) (bytes : List ℕ) (all : Pairs) → record_apart keys bytes (parted (codes "items") all) ≡ record_from keys bytes (Some all)
+same_record keys bytes all =
+    rw (
+      value_of-blanked (codes "items") (codes "version") all refl,
+      value_of-blanked (codes "items") (codes "name") all refl,
+      value_of-blanked (codes "items") (codes "tam") all refl,
+      value_of-blanked (codes "items") (codes "chunker_params") all refl,
+      without-blanked apart_names (codes "items") all refl,
+      contents_under_ids (codes "items") all,
+    ) refl
+
+-- a record of bytes, from its parts
+from_parts : (keys : Keys) (bytes : List ℕ) (o : Option Pairs) (parts : Parts) → option_map (parted (codes "items")) o ≡ Some parts
+    → record_from keys bytes o ≡ record_apart keys bytes parts
+from_parts keys bytes None parts e = cc
+from_parts keys bytes (Some all) parts e =
+    let same : parted (codes "items") all ≡ parts = some_same (parted (codes "items") all) parts e in
+    sym (same_record keys bytes all) ∙ ap (record_apart keys bytes) same
+
+pub archive_parts : (keys : Keys) (bytes : List ℕ) (parts : Parts) → option_map (parted (codes "items")) (map_of bytes) ≡ Some parts
+    → archive_of keys bytes ≡ record_apart keys bytes parts
+unfolding archive_of
+archive_parts keys bytes parts e = from_parts keys bytes (map_of bytes) parts e
 
 -- ---- what is read can be packed
 

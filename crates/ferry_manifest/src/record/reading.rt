@@ -1,69 +1,24 @@
 //! The reader of packed archive records.
 
-ghost use Rattle.std.specs.Prelude.{◌≡◌, ◌≢◌, true, false, IfOk, IfErr, Ok, Err, Some, None, is_some, option_map, codes};
-ghost use Rattle.ferry_msgpack.specs.Tree.{table};
-ghost use Rattle.ferry_msgpack.specs.Writable.{IsWritable};
-ghost use Rattle.ferry_msgpack.specs.View.{value_view, items_view, pairs_view};
-ghost use Rattle.ferry_fields.specs.Fields.{has_version_1, raw_in, value_of};
+ghost use Rattle.std.specs.Prelude.{◌≡◌, ◌≢◌, true, false, IfOk, IfErr, Ok, Err, Some, is_some, option_map, codes};
+ghost use Rattle.ferry_msgpack.specs.Apart.{apart_view};
+ghost use Rattle.ferry_msgpack.specs.View.{value_view, pairs_view};
+ghost use Rattle.ferry_fields.specs.Fields.{raw_in, value_of};
 ghost use Rattle.ferry_fields.specs.Others.{without};
+ghost use Rattle.ferry_manifest.specs.Record.Apart.{lacks_apart, record_apart};
 ghost use Rattle.ferry_manifest.specs.Record.Writing.{IsPackableArchive};
-ghost use Rattle.ferry_manifest.specs.Record.Text.{ArchiveText, IsRecordFault, apart_names, archive_of, archive_view, id_of, ids_in, items_at};
-ghost use Rattle.ferry_manifest.specs.Record.Text.{lacks_record_field, record_from, unless_tag_differs};
+ghost use Rattle.ferry_manifest.specs.Record.Text.{ArchiveText, IsRecordFault, apart_names, archive_of, archive_view, unless_tag_differs};
 ghost use Rattle.ferry_manifest.specs.Stated.{tag_in};
 
 use crate::fault::MetaFault;
 use crate::record::{Archive, Ids};
 use crate::stated::{StatedTag, is_right, tag_in};
 use crate::tag::ARCHIVE_INFO;
-use crate::values::raw_of;
 use ferry_base::{Bytes, Id};
-use ferry_fields::{has_version_1, map_of, raw_in, value_of, without};
+use ferry_fields::{has_version_1, map_apart_of, raw_in, value_of, without};
 use ferry_mac::Keys;
-use ferry_msgpack::Value;
+use ferry_msgpack::{Apart, Value};
 use std::alloc::{AllocError, Global};
-
-/// The id that a value is.
-fn id_of(value: &Value) -> Option<Id>
-    ensures { result ≡ id_of (value_view value.now) }
-{
-    let content = raw_of(value)?;
-    if content.len() != 32 {
-        return None;
-    }
-    let mut id = [0u8; 32];
-    id.copy_from_slice(content);
-    Some(id)
-}
-
-/// The ids that these values are.
-fn ids_in(alloc: Global, items: &[Value]) -> Result<Ids, MetaFault>
-    ensures ids { IfOk result (λ ids. ids_in (items_view items.now) ≡ Some ids) }
-    ensures fault { IfErr result (λ fault. fault ≢ MetaFault.Memory
-        → (fault ≡ MetaFault.Field) × (ids_in (items_view items.now) ≡ None)) }
-    ensures only { IfErr result IsRecordFault }
-{
-    let mut ids = Vec::new(alloc);
-    for place in 0..items.len() {
-        let Some(id) = id_of(&items[place]) else {
-            return Err(MetaFault::Field);
-        };
-        ids.push(id)?;
-    }
-    Ok(Ids::new(ids))
-}
-
-/// The ids of the objects with the items, where the name is there and has an array of ids.
-fn items_in(alloc: Global, pairs: &[(Vec<u8>, Value)]) -> Result<Ids, MetaFault>
-    ensures items { IfOk result (λ items. items_at (pairs_view pairs.now) ≡ Some items) }
-    ensures fault { IfErr result (λ fault. fault ≢ MetaFault.Memory
-        → (fault ≡ MetaFault.Field) × (items_at (pairs_view pairs.now) ≡ None)) }
-    ensures only { IfErr result IsRecordFault }
-{
-    match value_of(pairs, b"items") {
-        Some(Value::Array(items)) => ids_in(alloc, items.as_slice()),
-        _ => Err(MetaFault::Field),
-    }
-}
 
 /// A copy of the value of `chunker_params`, where the name is there.
 fn params_in(pairs: &[(Vec<u8>, Value)]) -> Result<Option<Value>, AllocError>
@@ -126,15 +81,19 @@ struct Fields {
     tag: Option<StatedTag>,
 }
 
-/// These fields, where each has its kind and length.
-fn fields_in(alloc: Global, pairs: &[(Vec<u8>, Value)]) -> Result<Fields, MetaFault>
-    ensures whole { IfOk result (λ _. lacks_record_field (pairs_view pairs.now) ≡ false) }
-    ensures version { IfOk result (λ _. has_version_1 (pairs_view pairs.now) ≡ true) }
+/// These fields, where each has its kind and length, from the pairs and the ids that are the value of `items`.
+fn fields_in(
+    alloc: Global,
+    pairs: &[(Vec<u8>, Value)],
+    ids: Option<Vec<Id>>,
+) -> Result<Fields, MetaFault>
+    ensures whole { IfOk result (λ _.
+        lacks_apart (pairs_view pairs.now, option_map (λ all. all.items) ids) ≡ false) }
     ensures name { IfOk result (λ fields. raw_in (codes "name") (pairs_view pairs.now) ≡ Some fields.name) }
-    ensures items { IfOk result (λ fields. items_at (pairs_view pairs.now) ≡ Some fields.items) }
+    ensures items { IfOk result (λ fields. option_map (λ all. all.items) ids ≡ Some fields.items) }
     ensures tag { IfOk result (λ fields. tag_in (pairs_view pairs.now) ≡ Some fields.tag) }
-    ensures fault { IfErr result (λ fault. fault ≢ MetaFault.Memory
-        → (fault ≡ MetaFault.Field) × (lacks_record_field (pairs_view pairs.now) ≡ true)) }
+    ensures fault { IfErr result (λ fault. fault ≢ MetaFault.Memory → (fault ≡ MetaFault.Field)
+        × (lacks_apart (pairs_view pairs.now, option_map (λ all. all.items) ids) ≡ true)) }
     ensures only { IfErr result IsRecordFault }
 {
     if !has_version_1(pairs) {
@@ -144,27 +103,24 @@ fn fields_in(alloc: Global, pairs: &[(Vec<u8>, Value)]) -> Result<Fields, MetaFa
         return Err(MetaFault::Field);
     };
     let name = Bytes::new(Vec::from_slice(alloc, name)?);
-    let items = items_in(alloc, pairs)?;
+    let Some(ids) = ids else {
+        return Err(MetaFault::Field);
+    };
+    let items = Ids::new(ids);
     let tag = tag_in(pairs)?;
     Ok(Fields { name, items, tag })
 }
 
-/// The record of a map, its tag checked.
-fn record_from(
-    alloc: Global,
-    keys: &Keys,
-    bytes: &[u8],
-    pairs: Vec<(Vec<u8>, Value)>,
-) -> Result<Archive, MetaFault>
-    requires { IsWritable (table (pairs_view pairs.items)) }
+/// The record of a map that was read with the value of `items` apart, its tag checked.
+fn record_from(alloc: Global, keys: &Keys, bytes: &[u8], apart: Apart) -> Result<Archive, MetaFault>
     ensures archive { IfOk result (λ archive.
-        record_from keys.now bytes.now (Some (pairs_view pairs.items)) ≡ Ok (archive_view archive)) }
+        record_apart keys.now bytes.now (apart_view apart) ≡ Ok (archive_view archive)) }
     ensures fault { IfErr result (λ fault. fault ≢ MetaFault.Memory
-        → record_from keys.now bytes.now (Some (pairs_view pairs.items)) ≡ Err fault) }
-    ensures packable { IfOk result (λ archive. IsPackableArchive (archive_view archive)) }
+        → record_apart keys.now bytes.now (apart_view apart) ≡ Err fault) }
     ensures only { IfErr result IsRecordFault }
 {
-    let said = fields_in(alloc, pairs.as_slice())?;
+    let Apart { pairs, contents } = apart;
+    let said = fields_in(alloc, pairs.as_slice(), contents)?;
     check_tag(alloc, keys, bytes, said.tag)?;
     let params = params_in(pairs.as_slice())?;
     let tagged = is_tagged(pairs.as_slice());
@@ -181,6 +137,8 @@ fn record_from(
 /// Reads the packed bytes of an archive's record, the content of the object that the manifest names
 /// for the archive, under the keys of its repository.
 ///
+/// The ids of `items` are read one after the other, and no values are made of them.
+///
 /// A fault is the first in the order Pack, Field, Tag; `Memory` may come from any bytes, at any point. A
 /// record without an authentication tag is read, and isn't `tagged`.
 ///
@@ -196,6 +154,6 @@ pub fn read_archive(alloc: Global, keys: &Keys, bytes: &[u8]) -> Result<Archive,
     // A fault is Pack, Field, Tag or Memory.
     ensures only { IfErr result IsRecordFault }
 {
-    let pairs = map_of(alloc, bytes)?;
-    record_from(alloc, keys, bytes, pairs)
+    let apart = map_apart_of(alloc, bytes, b"items")?;
+    record_from(alloc, keys, bytes, apart)
 }

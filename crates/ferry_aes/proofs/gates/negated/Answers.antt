@@ -11,4 +11,4 @@ use Rattle.ferry_aes.proofs.gates.negated.Goals as goal
 pub returns : goal.returns
 returns c j i lane bit =
     let set : wire (replicate 16 255) j i ≡ 1 = ap (λ x. bit_at x i) (get_or-replicate 16 j 255 0 lane) ∙ bit_at_ones 8 i bit in
-    wire-xor c.args.a (replicate 16 255) j i c.fits-a.0 refl lane ∙ ap (add_bits (wire c.args.a j i)) set
+    wire-xor 16 c.args.a (replicate 16 255) j i c.fits-a.0 refl lane ∙ ap (add_bits (wire c.args.a j i)) set

@@ -1,5 +1,5 @@
 use Rattle.std.proofs.Common.{◌≡◌, ℕ, ◌<◌, IsOk, drop, length}
-use Rattle.ferry_mac.specs.Many.{nth_text}
+use Rattle.ferry_mac.specs.Lanes.{nth_text}
 use Rattle.ferry_blob.specs.Batch.{answer_at, bytes_at}
 use Rattle.ferry_blob.proofs.many_opening.ids_of_opened.Given as goal
 

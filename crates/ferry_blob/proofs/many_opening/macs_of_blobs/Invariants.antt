@@ -1,5 +1,5 @@
 use Rattle.std.proofs.Common.{◌≡◌, ℕ, ◌<◌, ◌≤◌, true, drop, length, slice_index}
-use Rattle.ferry_mac.specs.Many.{nth_text}
+use Rattle.ferry_mac.specs.Lanes.{nth_text}
 use Rattle.ferry_blob.specs.Batch.{bytes_at}
 use Rattle.ferry_blob.specs.Blob.{has_type}
 use Rattle.ferry_blob.proofs.many_opening.macs_of_blobs.Given as goal

@@ -1,5 +1,5 @@
 use Rattle.std.proofs.Common.{◌≡◌, ℕ, ◌<◌, drop, length}
-use Rattle.ferry_mac.specs.Many.{nth_text}
+use Rattle.ferry_mac.specs.Lanes.{nth_text}
 use Rattle.ferry_blob.specs.Batch.{bytes_at}
 use Rattle.ferry_blob.proofs.many_sealing.macs_of_parts.Given as goal
 

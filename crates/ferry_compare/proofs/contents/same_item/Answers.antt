@@ -1,8 +1,8 @@
-use Rattle.std.proofs.Common.{◌≡◌, true, false, sym, ◌∙◌}
+use Rattle.std.proofs.Common.{◌≡◌, true, false, refl, sym, ◌∙◌}
 use Rattle.ferry_item.specs.Item.{item_view}
 use Rattle.ferry_repo.specs.Opening.{repo_view}
 use Rattle.ferry_compare.proofs.ContentLemmas.{items_same, items_apart}
-use Rattle.ferry_compare.proofs.StepLemmas.{if_ok}
+use Rattle.ferry_compare.proofs.StepLemmas.{if_ok, matched_later}
 use Rattle.ferry_compare.proofs.contents.same_item.Goals as goal
 
 pub returns-then-same_value-clause-compares : goal.returns-then-same_value-clause-compares
@@ -17,3 +17,11 @@ returns-clause-compares g c =
     (item_view c.args.item.now) (item_view c.args.beside.now)
     (λ e. let no : false ≡ true = sym c.if-same_value.false ∙ c.same_value.ensures.same.1 e in let not : ⊥ = cc in not)
     c.in_ok-read_content.ensures.holds
+
+pub returns-clause-matched : goal.returns-clause-matched
+returns-clause-matched g c =
+    let heard = g.T.Shelf.told c.args.other.now in
+    let target = repo_view c.args.target.now in
+    matched_later (g.S.Shelf.told c.args.shelf.now) (g.S.Shelf.told c.read_content.new.shelf) (repo_view c.args.source.now)
+    (repo_view c.read_content.new.source) heard heard target target c.in_ok-read_content.ensures.same c.in_ok-read_content.ensures.kept refl refl
+    c.args.matches.now c.requires.matched

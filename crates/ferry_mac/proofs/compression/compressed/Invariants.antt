@@ -4,5 +4,5 @@ use Rattle.ferry_mac.specs.Lanes.{HasWords, lane}
 use Rattle.ferry_mac.proofs.compression.compressed.Given as goal
 
 abbrev pub invariant-loop-turn : goal.invariant-loop-turn
-invariant-loop-turn l =
-    (k : ℕ) (block : List ℕ) → k < 4 → HasWords l.fn.w k block → lane l.v k ≡ rounds (lane l.state k) (schedule block 48) (4 * l.turn)
+invariant-loop-turn g l =
+    (k : ℕ) (block : List ℕ) → k < g.row.N → HasWords l.fn.w k block → lane l.v k ≡ rounds (lane l.state k) (schedule block 48) (4 * l.turn)

@@ -5,7 +5,7 @@ use Rattle.ferry_mac.proofs.RoundLemmas.{rounds_more}
 use Rattle.ferry_mac.proofs.compression.four_rounds.Goals as goal
 
 pub returns : goal.returns
-returns c l h block inside words before =
+returns g c l h block inside words before =
     let w = schedule block 48 in
     let t = c.args.t in
     let a : lane c.round-first.result l ≡ rounds h w (t + 1) =

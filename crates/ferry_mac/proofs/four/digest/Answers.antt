@@ -9,10 +9,10 @@ use Rattle.ferry_mac.proofs.four.digest.Goals as goal
 
 pub loop-i-init : goal.loop-i-init
 unfolding digest_bytes
-loop-i-init c = (refl, refl)
+loop-i-init g c = (refl, refl)
 
 pub loop-i-preserved : goal.loop-i-preserved
-loop-i-preserved c = (
+loop-i-preserved g c = (
   search (rules, overwrites),
   digest_more c.loop-i.out (lane c.args.state.now c.args.place) _ c.loop-i.i _ c.loop-i.invariant.1 (omega (arith, c.loop-i.invariant.0))
       (c.copy_from_slice.ensures.after ∙ c.to_be_bytes.ensures

@@ -2,4 +2,4 @@ use Rattle.ferry_mac.proofs.LaneLemmas.{at-xor_of_three}
 use Rattle.ferry_mac.proofs.lanes.xor_of_three.Goals as goal
 
 pub returns : goal.returns
-returns c lane h = at-xor_of_three c.args.x c.args.y c.args.z lane c.fits-x.0 c.fits-y.0 c.fits-z.0 h
+returns g c lane h = at-xor_of_three g.row.N c.args.x c.args.y c.args.z lane c.fits-x.0 c.fits-y.0 c.fits-z.0 h

@@ -1,21 +1,19 @@
-use Rattle.std.proofs.Common.{ℕ, ◌<◌, List, [], ◌∷◌, ◌≡◌, ◌+◌, ◌-◌, slice_index, refl, arith}
-use Rattle.ferry_mac.proofs.LaneLemmas.{below_4}
+use Rattle.std.proofs.Common.{◌≡◌, ◌+◌, ◌∙◌, ap, slice_index, arith}
+use Rattle.sha2.specs.Sha256.{hash_after}
+use Rattle.ferry_mac.specs.Lanes.{behind_key}
+use Rattle.ferry_mac.specs.Many.{text_of}
 use Rattle.ferry_mac.proofs.ManyLemmas.{lane_on}
 use Rattle.ferry_mac.proofs.many.advance.Goals as goal
 
 pub returns-clause-lanes : goal.returns-clause-lanes
-returns-clause-lanes c l inside =
+returns-clause-lanes g c l inside =
+    lane_on c.args.texts.now c.args.lanes.now c.count_blocks.new.lanes c.args.count l (c.requires.lanes l inside)
+    c.count_blocks.ensures.places c.count_blocks.ensures.ends (c.count_blocks.ensures.done l inside) (c.count_blocks.ensures.left l inside)
+
+pub returns-clause-hash : goal.returns-clause-hash
+returns-clause-hash g c start l inside held =
     let lanes = c.args.lanes.now in
-    let count = c.args.count in
-    let blocks : List ℕ =
-    (slice_index lanes.done 0 + count) ∷ (slice_index lanes.done 1 + count) ∷ (slice_index lanes.done 2 + count) ∷ (slice_index lanes.done 3 + count) ∷ [] in
-    let lefts : List ℕ =
-    (slice_index lanes.lefts 0 - count) ∷ (slice_index lanes.lefts 1 - count)
-    ∷ (slice_index lanes.lefts 2 - count) ∷ (slice_index lanes.lefts 3 - count) ∷ [] in
-    let fewer : (l : ℕ) → l < 4 → slice_index lefts l + count ≡ slice_index lanes.lefts l =
-    below_4 (λ l. slice_index lefts l + count ≡ slice_index lanes.lefts l)
-    (omega (arith, c.requires.left 0 (omega arith))) (omega (arith, c.requires.left 1 (omega arith)))
-    (omega (arith, c.requires.left 2 (omega arith))) (omega (arith, c.requires.left 3 (omega arith))) in
-    lane_on c.args.texts.now lanes blocks lefts count l (c.requires.lanes l inside)
-    (below_4 (λ l. slice_index blocks l ≡ slice_index lanes.done l + count) refl refl refl refl l inside)
-    (fewer l inside)
+    let done : slice_index lanes.done l + c.args.count ≡ slice_index c.count_blocks.new.lanes.done l =
+    omega (arith, c.count_blocks.ensures.done l inside) in
+    rw c.count_blocks.ensures.places (c.run-next.ensures start l inside held
+    ∙ ap (hash_after start (behind_key (text_of c.args.texts.now lanes l))) done)

@@ -1,18 +1,17 @@
-use Rattle.std.proofs.Common.{◌<◌, ◌^◌, slice_index, arith}
-use Rattle.ferry_mac.specs.Many.{nth_text}
-use Rattle.ferry_mac.proofs.EndingLemmas.{length-behind_key}
-use Rattle.ferry_mac.proofs.ManyLemmas.{begun_hash, begun_in}
+use Rattle.std.proofs.Common.{slice_index, sym, subst, inl, inr}
+use Rattle.std.proofs.lemmas.Bool.Decides.{eqb_tells}
+use Rattle.ferry_mac.specs.Many.{IsInLane}
+use Rattle.ferry_mac.proofs.ManyLemmas.{begun_hash}
 use Rattle.ferry_mac.proofs.many.begin.Goals as goal
 
 pub returns-clause-lanes : goal.returns-clause-lanes
-returns-clause-lanes c j low =
-    let text = nth_text c.args.texts.now c.args.place in
-    let few : c.block_count.result < 2 ^ 60 = omega (arith, c.block_count.ensures, length-behind_key c.text_at-text.result.now) in
-    begun_in c.args.texts.now c.args.lanes.now c.args.l c.args.place c.block_count.result c.ending.result (omega arith) (omega arith) (omega arith)
-    (omega arith) c.requires.lane (rw c.text_at-text.ensures at c.ending.ensures) (rw c.text_at-text.ensures at c.block_count.ensures) few j
-    (c.requires.lanes j low)
+returns-clause-lanes g c j low = elim (eqb_tells j c.args.l) [
+  | inl same ↦ subst (λ j. IsInLane c.args.texts.now c.set_text.new.lanes j) (sym (same.1)) c.set_text.ensures.lane
+  | inr apart ↦ c.set_text.ensures.lanes j (apart.1) (c.requires.lanes j low)
+]
 
 pub returns-clause-hash : goal.returns-clause-hash
-returns-clause-hash c h j low first held =
-    begun_hash h c.args.texts.now c.args.lanes.now c.args.start.now c.args.state.now c.kept-next.result c.args.l c.args.place c.block_count.result
-    (slice_index c.only.result j) c.ending.result (omega arith) c.requires.lane j (c.only.ensures j low) (c.kept-next.ensures j low) first (omega arith) held
+returns-clause-hash g c h j low first held =
+    begun_hash h c.args.texts.now c.args.lanes.now c.set_text.new.lanes c.args.start.now c.args.state.now c.kept-next.result c.args.l
+    (slice_index c.only.result j) j c.set_text.ensures.none (c.set_text.ensures.done j) (c.set_text.ensures.places j)
+    (c.only.ensures j low) (c.kept-next.ensures j low) first held

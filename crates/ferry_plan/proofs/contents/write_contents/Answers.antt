@@ -11,7 +11,7 @@ use Rattle.ferry_plan.proofs.contents.write_contents.Goals as goal
 use Rattle.ferry_repo.proofs.FaultLemmas.{gives_err}
 use Rattle.ferry_repo.specs.Fault.{IsOfFiles}
 use Rattle.ferry_repo.specs.Opening.{repo_view}
-use Rattle.ferry_repo.specs.Whole.{RefusesJoined}
+use Rattle.ferry_repo.specs.Archives.{RefusesJoined}
 use Rattle.ferry_repo.specs.declared.fault.RepoFault.{RepoFault}
 
 pub loop-place-init : goal.loop-place-init

@@ -1,9 +1,11 @@
-use Rattle.std.proofs.Common.{[]}
+use Rattle.std.proofs.Common.{[], refl}
 use Rattle.std.proofs.lemmas.Result.{IfErr-weaker, on_ok_weaker}
+use Rattle.ferry_compare.proofs.StepLemmas.{keeps_ok, matched_later}
 use Rattle.ferry_plan.proofs.NamesLemmas.{again_planned, archive_told, listed_planned, present_planned}
 use Rattle.ferry_plan.proofs.PresentLemmas.{apart_from, lacking, none_some}
 use Rattle.ferry_plan.proofs.TallyLemmas.{tallies_none}
 use Rattle.ferry_plan.proofs.planning.plan_name.Goals as goal
+use Rattle.ferry_plan.specs.Fault.{shelf_failed}
 use Rattle.ferry_repo.specs.Archives.{archive_named}
 use Rattle.ferry_repo.specs.Opening.{repo_view}
 
@@ -71,3 +73,14 @@ returns-clause-refused g c =
     IfErr-weaker c.take_archive.result _ _
     (λ fault refuses. archive_told (g.S.Shelf.told c.args.shelf.now) (repo_view c.args.source.now) c.args.tally.now.block (g.T.Shelf.told c.args.other.now)
     target name fault lacks refuses) c.take_archive.ensures.refused
+
+pub returns-clause-matched : goal.returns-clause-matched
+returns-clause-matched g c =
+    let told = g.S.Shelf.told c.args.shelf.now in
+    let later = g.S.Shelf.told c.take_archive.new.shelf in
+    let heard = g.T.Shelf.told c.args.other.now in
+    let target = repo_view c.args.target.now in
+    on_ok_weaker c.take_archive.result
+    (λ same. matched_later told later (repo_view c.args.source.now) (repo_view c.take_archive.new.source) heard heard target target same
+    c.take_archive.ensures.kept refl refl c.args.matches.now c.requires.matched)
+    (keeps_ok shelf_failed told later c.take_archive.result c.take_archive.ensures.same)

@@ -24,6 +24,7 @@ loop-place-init g c =
       target_alike = refl;
       source_faults = refl;
       target_faults = refl;
+      matched = c.requires.matched;
       planned = (
         [],
         (
@@ -71,6 +72,7 @@ loop-place-preserved g c =
       target_alike = planned.target_same ∙ invariant.target_alike;
       source_faults = planned.cause ∙ invariant.source_faults;
       target_faults = planned.target_cause ∙ invariant.target_faults;
+      matched = planned.matched;
       planned = (
         so.0 ++ next.0,
         (

@@ -1,6 +1,7 @@
 use Rattle.std.proofs.Common.{◌≡◌, [], ℕ, List, None, IfSome, take}
 use Rattle.ferry_piece.specs.Gather.{IsAmong}
 use Rattle.ferry_piece.specs.Puts.{Addition}
+use Rattle.ferry_compare.specs.Matched.{AreMatched}
 use Rattle.ferry_disk.specs.Device.{heard, told_files}
 use Rattle.ferry_plan.proofs.planning.plan_names.Given as goal
 use Rattle.ferry_plan.specs.Plan.{PlansAll, WhereBoth}
@@ -22,6 +23,7 @@ invariant-loop-place g l = record {
   target_alike : heard (g.T.Shelf.told l.other) ≡ heard (g.T.Shelf.told l.fn.other);
   source_faults : g.S.Shelf.faults l.shelf ≡ g.S.Shelf.faults l.fn.shelf;
   target_faults : g.T.Shelf.faults l.other ≡ g.T.Shelf.faults l.fn.other;
+  matched : AreMatched (g.S.Shelf.told l.shelf) (repo_view l.source) (g.T.Shelf.told l.other) (repo_view l.target) l.matches;
   planned : (added : List Addition)
       × (TalliesOn (repo_view l.fn.target).keys (repo_view l.fn.target).log l.fn.tally added l.tally
       × WhereBoth (g.S.Shelf.told l.fn.shelf) (g.T.Shelf.told l.fn.other) (λ there files.

@@ -3,7 +3,7 @@ use Rattle.std.proofs.lemmas.List.{get_or_default}
 use Rattle.std.specs.List.{AllByRecursion}
 use Rattle.ferry_base.specs.Limits.{zero_id}
 use Rattle.ferry_blob.specs.Batch.{bytes_at}
-use Rattle.ferry_repo.specs.Cached.{Contents}
+use Rattle.ferry_repo.specs.Cached.{Opened}
 use Rattle.ferry_repo.specs.Objects.{HoldsChunk}
 use Rattle.ferry_repo.proofs.BatchLemmas.{popped, opened_at, kept_opened}
 use Rattle.ferry_repo.proofs.batch.keep_opened.Goals as goal
@@ -11,7 +11,7 @@ use Rattle.ferry_repo.proofs.batch.keep_opened.Goals as goal
 pub returns-in_err-keep_new : goal.returns-in_err-keep_new
 returns-in_err-keep_new c = record {
   holds = λ files log keys opens held.
-      subst (λ (cs : Contents). AllByRecursion (λ c. HoldsChunk files log keys c.0 c.1) cs) (sym c.in_err-keep_new.ensures.err)
+      subst (λ (cs : Opened). AllByRecursion (λ c. HoldsChunk files log keys c.0 c.1) cs) (sym c.in_err-keep_new.ensures.err)
       (c.loop-blob.invariant.holds files log keys opens held);
 }
 

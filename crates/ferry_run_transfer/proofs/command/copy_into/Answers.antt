@@ -1,9 +1,10 @@
 use Rattle.std.proofs.Common.{rules, ◌≡◌, true, Result, IfErr, refl, ◌∙◌}
 use Rattle.ferry_piece.proofs.WorkLemmas.{err_is}
-use Rattle.ferry_piece.specs.Fault.{IsOfWork, target_fault}
+use Rattle.ferry_piece.specs.Fault.{IsOfWork, random_failed, shelf_failed, target_fault}
 use Rattle.ferry_piece.specs.Work.{Works}
 use Rattle.ferry_piece.specs.declared.fault.CarryFault.{CarryFault}
 use Rattle.ferry_piece.specs.declared.fault.CarryFault.TheVariants.{Memory}
+use Rattle.ferry_disk.specs.Device.{HasCause, KeepsTold}
 use Rattle.ferry_disk.specs.Moments.{Between}
 use Rattle.ferry_repo.specs.Opening.{repo_view}
 use Rattle.ferry_store.proofs.UseLemmas.{fits_opened}
@@ -350,3 +351,21 @@ returns-clause-puts g c =
     c.requires.source_opens (c.deref-2.ensures.value ∙ c.in_ok-chosen.ensures.chosen) c.in_ok-store.store (g.D.Shelf.told c.args.target.now)
     (g.D.Shelf.told c.open.new.depot) (g.D.Shelf.told c.carry.new.depot) (g.D.Shelf.faults c.args.target.now) (g.D.Shelf.faults c.open.new.depot)
     c.in_ok-store.ensures.accepted c.in_ok-store.ensures.opened c.open.ensures.removes c.in_ok-store.ensures.did works.added works.begins works.works.each
+
+pub returns-in_err-carry-clause-same : goal.returns-in_err-carry-clause-same
+returns-in_err-carry-clause-same g c =
+    err_is c.from_residual-in_err-carry.result c.in_err-carry.field-0.0
+    (λ (r : Result (Unit {0}) CarryFault). KeepsTold shelf_failed (g.S.Shelf.told c.args.source.now) (g.S.Shelf.told c.carry.new.shelf) r)
+    c.from_residual-in_err-carry.ensures.1 c.in_err-carry.ensures.both.source.same
+
+pub returns-in_err-carry-clause-cause : goal.returns-in_err-carry-clause-cause
+returns-in_err-carry-clause-cause g c =
+    err_is c.from_residual-in_err-carry.result c.in_err-carry.field-0.0
+    (λ (r : Result (Unit {0}) CarryFault). HasCause shelf_failed (g.S.Shelf.faults c.args.source.now) (g.S.Shelf.faults c.carry.new.shelf) r)
+    c.from_residual-in_err-carry.ensures.1 c.in_err-carry.ensures.both.source.cause
+
+pub returns-in_err-carry-clause-entropy : goal.returns-in_err-carry-clause-entropy
+returns-in_err-carry-clause-entropy g c =
+    err_is c.from_residual-in_err-carry.result c.in_err-carry.field-0.0
+    (λ (r : Result (Unit {0}) CarryFault). HasCause random_failed (g.E.Entropy.faults c.args.entropy.now) (g.E.Entropy.faults c.carry.new.entropy) r)
+    c.from_residual-in_err-carry.ensures.1 c.in_err-carry.ensures.both.entropy

@@ -1,6 +1,6 @@
 use Rattle.std.proofs.Common.{◌≡◌, ℕ, ◌<◌, drop, length}
 use Rattle.ferry_blob.specs.Batch.{bytes_at}
-use Rattle.ferry_mac.specs.Many.{nth_text}
+use Rattle.ferry_mac.specs.Lanes.{nth_text}
 use Rattle.ferry_store.proofs.piece.name_each.Given as goal
 
 -- the texts before the place are the contents of the buffers

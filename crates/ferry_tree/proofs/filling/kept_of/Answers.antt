@@ -8,7 +8,7 @@ returns-then-content-chunk c = record {
   content = λ files fits.
       let repo = repo_view c.args.repo.now in
       record {
-        holds = kept_holds files repo.log repo.keys c.args.chunk.now.id c.in_ok-content.content.now (cached_in c.args.repo.now) fits.cached
+        holds = kept_holds files repo.log repo.keys c.args.chunk.now.id c.in_ok-content.content.now (cached_in c.args.repo.now).opened fits.cached
             (sym c.in_ok-content.ensures.content);
         size = c.if-content-chunk.true;
       };

@@ -44,6 +44,7 @@ loop-place-init g c = record {
   pending = c.requires.both.target.pending;
   ended = λ none. none;
   most = most_here c.args.store.now;
+  matched = c.requires.matched;
   works = reports_begin
       (origin_of (g.S.Shelf.told c.args.shelf.now) (repo_view c.args.source.now) c.args.self.now.options.now)
       c.args.store.now c.args.carried.now (g.D.Shelf.told c.args.depot.now) (g.D.Shelf.faults c.args.depot.now) (g.E.Entropy.drawn c.args.entropy.now)
@@ -79,6 +80,7 @@ loop-place-preserved g c =
       drawn = ensures.both.entropy ∙ invariant.drawn;
       pending = omega (arith, ensures.both.target.pending);
       ended = λ none. done;
+      matched = c.in_ok-carry_one.ensures.matched;
       most = most_then store c.loop-place.store now invariant.most ensures.both.target.most_kept;
       works = (
         reports_more (origin told source block most time) (origin later after block most time) c.args.self.now.names.now c.loop-place.place name _

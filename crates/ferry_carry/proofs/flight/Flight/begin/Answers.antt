@@ -2,6 +2,7 @@ use Rattle.std.proofs.Common.{◌≡◌, [], Some, ap, refl, sym, ◌∙◌, sub
 use Rattle.ferry_carry.proofs.FlightLemmas.{named_so}
 use Rattle.ferry_carry.proofs.flight.Flight.begin.Goals as goal
 use Rattle.ferry_carry.specs.Flight.{AreRight}
+use Rattle.ferry_compare.specs.Matched.{AreMatched}
 use Rattle.ferry_manifest.specs.Manifest.Text.{ManifestText}
 use Rattle.ferry_repo.specs.Archives.{archive_named}
 use Rattle.ferry_repo.specs.Opening.{repo_view}
@@ -24,6 +25,7 @@ returns-clause-flight c told heard store met =
         };
         added = [];
         work = refl;
+        matched = subst (AreMatched told (repo_view c.args.source.now) heard (repo_view store.repo)) (sym c.new.ensures.none) tt;
       },
       refl,
     )

@@ -1,4 +1,4 @@
-use Rattle.std.proofs.Common.{◌≡◌, [], ◌∷◌, ℕ, List, Some, Result, Ok, Err, refl, sym, ◌∙◌, ap, subst, IfErr, IsSome, arith, rules}
+use Rattle.std.proofs.Common.{◌≡◌, [], ◌∷◌, ℕ, List, Some, Result, Ok, Err, refl, sym, ◌∙◌, ap, subst, IfErr, IsSome, OnOk, arith, rules}
 use Rattle.ferry_carry.proofs.FlightLemmas.{read_rest, rest_accepts, rest_there, there_accepted}
 use Rattle.ferry_carry.proofs.BegunLemmas.{begins_there, filled_apart, fills_there}
 use Rattle.ferry_carry.proofs.FlyLemmas.{flies_as, flies_fault, present_flies}
@@ -13,9 +13,12 @@ use Rattle.ferry_piece.proofs.AddingLemmas.{held_spent}
 use Rattle.ferry_carry.proofs.WorkLemmas.{carried_from}
 use Rattle.ferry_piece.proofs.WorkLemmas.{err_is, gathered_fault}
 use Rattle.ferry_carry.proofs.flight.Flight.compare.Goals as goal
-use Rattle.ferry_carry.specs.Flight.{IsSame, WorkFits, flown_from}
+use Rattle.ferry_carry.proofs.OverFlightLemmas.{present_matched}
+use Rattle.ferry_carry.specs.Counting.{nothing_carried}
+use Rattle.ferry_carry.specs.Flight.{IsSame, WaitsMatched, WorkFits, flown_from, matched_in}
 use Rattle.ferry_piece.specs.Puts.{AtBegin, border_behind}
 use Rattle.ferry_piece.specs.declared.fault.CarryFault.{CarryFault}
+use Rattle.ferry_carry.specs.declared.flight.Flight.{Flight}
 use Rattle.ferry_carry.specs.declared.flight.Turn.{Turn}
 use Rattle.ferry_carry.specs.declared.flight.Turn.TheVariants.{More}
 use Rattle.ferry_compare.specs.Compare.{comparison_view, met_behind, seen}
@@ -29,11 +32,12 @@ use Rattle.ferry_carry.specs.Refusals.{DiffersThere, IsLimited, Leaves, RefusesC
 use Rattle.ferry_piece.specs.Stops.{StopsPieces}
 use Rattle.std.proofs.lemmas.Result.{IfErr-weaker}
 use Rattle.ferry_store.specs.Commit.{accepted_in}
+use Rattle.ferry_store.specs.declared.store.Store.{Store}
 use Rattle.ferry_piece.proofs.FewLemmas.{begun_as, begun_same, begun_then}
 use Rattle.ferry_carry.proofs.MetLemmas.{comparing_reads, present_reads, taken_reads}
 use Rattle.ferry_carry.proofs.TurnLemmas.{stops_turn, flies_present}
 use Rattle.ferry_carry.specs.States.{target_state}
-use Rattle.ferry_carry.specs.Turns.{OnlyReads}
+use Rattle.ferry_carry.specs.Turns.{FliesOn, OnlyReads}
 
 pub returns-in-More-clause-works : goal.returns-in-More-clause-works
 returns-in-More-clause-works g c = λ met goes.
@@ -81,6 +85,8 @@ returns-in-More-clause-works g c = λ met goes.
                 },
                 refl,
               );
+          matched = subst (WaitsMatched (g.S.Shelf.told c.compare_item-compared.new.shelf) (repo_view c.compare_item-compared.new.source) b
+              (repo_view now.repo) c.args.self.now.matches) (sym c.renew.ensures) tt;
         },
         refl,
       );
@@ -107,6 +113,8 @@ returns-in-Equal-clause-works g c = λ met goes.
     let compared = c.in_ok-compared.field-0 in
     let works = c.in_ok-compared.ensures.works from.most in
     let ends = c.present.ensures.works from.most in
+    let uncounted : c.let_go.new.self.put ≡ nothing_carried =
+    ap (λ (f : Flight). f.put) c.let_go.ensures.others ∙ c.requires.flight.uncounted in
     let apart = targets_apart {T = Turn} c.present.result c.present.ensures.target.refusal.target in
     record {
       flies = present_flies {T = Compared} from name store middle now a b d n m k compared c.present.result c.requires.both.target.accepts
@@ -120,7 +128,7 @@ returns-in-Equal-clause-works g c = λ met goes.
       held = held_spent {T = Turn} (border_behind AtBegin []) from.most store now [] a d c.present.result c.present.ensures.spent;
       fills = filled_apart {T = Turn} a from (repo_view store.repo).keys (accepted_in store) name [] c.present.result apart;
       lists = turn_present (g.S.Shelf.told c.compare_item-compared.new.shelf) (repo_view c.compare_item-compared.new.source) d now _ _ a from
-          (repo_view store.repo).keys c.present.result c.requires.flight.uncounted c.present.ensures.present;
+          (repo_view store.repo).keys c.present.result uncounted c.present.ensures.present;
       few = present_few store now c.present.result c.present.ensures.present
           (begun_then {T = Compared} {U = Turn} 0 1 2 store middle now (Ok compared) c.present.result (omega arith) works.few c.present.ensures.few);
     }
@@ -218,11 +226,15 @@ returns-in-Equal-clause-turn g c = record {
       let store = c.args.store.now in
       let middle = c.compare_item-compared.new.store in
       let ends = c.present.ensures in
-      flies_present {T = Turn} c.args.self.now.options.checkpoint c.args.self.now.named.name store middle (g.D.Shelf.told c.present.new.depot)
+      let flight = c.args.self.now in
+      let name : c.let_go.new.self.named.name ≡ flight.named.name = ap (λ (f : Flight). f.named.name) c.let_go.ensures.others in
+      subst (λ (n : List ℕ). OnOk c.present.result (FliesOn flight.options.checkpoint n store (g.D.Shelf.told c.present.new.depot) c.present.new.store))
+      (sym name)
+      (flies_present {T = Turn} c.args.self.now.options.checkpoint c.args.self.now.named.name store middle (g.D.Shelf.told c.present.new.depot)
       c.present.new.store
       c.present.result (read_rest store middle c.compare_item-compared.ensures.both.target.read) c.requires.both.target.packable
       c.requires.both.target.accepts
-      c.requires.both.target.committed ends.target.rest ends.target.fits ends.target.unspent ends.pending;
+      c.requires.both.target.committed ends.target.rest ends.target.fits ends.target.unspent ends.pending);
   turn = search rules;
 }
 
@@ -309,3 +321,16 @@ returns-in_err-compared-clause-reads g c =
     let fault = c.in_err-compared.field-0.0 in
     err_is c.from_residual.result fault (OnlyReads to to_now) c.from_residual.ensures.1
     (comparing_reads to to_now told (repo_view c.args.source.now) (comparison_view c.args.comparison).name fault c.in_err-compared.ensures.refused.refused)
+
+pub returns-in-Equal-clause-matched : goal.returns-in-Equal-clause-matched
+returns-in-Equal-clause-matched g c =
+    let middle = c.compare_item-compared.new.store in
+    let now = c.present.new.store in
+    let pending : c.pending.result ≡ middle.pending = c.pending.ensures.pending in
+    let was = (comparison_view c.compare_item-compared.new.comparison).matched in
+    present_matched (g.S.Shelf.told c.compare_item-compared.new.shelf) (repo_view c.compare_item-compared.new.source)
+    (g.D.Shelf.told c.compare_item-compared.new.depot) (g.D.Shelf.told c.present.new.depot) (repo_view middle.repo) (repo_view now.repo) middle.pending was
+    (matched_in c.let_go.new.self.work) c.present.result c.in_ok-compared.ensures.matched
+    (λ none. ap (λ (f : Flight). matched_in f.work) (c.let_go.ensures.kept (pending ∙ none)) ∙ ap matched_in c.renew.ensures)
+    (λ some. c.let_go.ensures.gone (λ none. some (sym pending ∙ none)))
+    (λ none. let still = c.present.ensures.still none in (ap (λ (s : Store). repo_view s.repo) still.0, ap g.D.Shelf.told still.1))

@@ -9,7 +9,9 @@ use Rattle.ferry_carry.proofs.NamesLemmas.{all_one}
 use Rattle.ferry_carry.proofs.ReportLemmas.{reports_name, reports_silent, telling_unbroken}
 use Rattle.ferry_piece.proofs.WorkLemmas.{err_is}
 use Rattle.ferry_carry.proofs.flight.Flight.complete.Goals as goal
-use Rattle.ferry_carry.specs.Flight.{flown_from}
+use Rattle.ferry_carry.proofs.OverFlightLemmas.{matched_behind}
+use Rattle.ferry_carry.specs.Flight.{flown_from, matched_in}
+use Rattle.ferry_carry.specs.Lines.{name_line, told_of}
 use Rattle.ferry_carry.specs.Grow.{KeepsGrowing}
 use Rattle.ferry_carry.specs.Refusals.{EndsAt, IsChunk, WhereTold, is_of_telling}
 use Rattle.ferry_carry.specs.Naming.{TagsDrawn}
@@ -211,3 +213,9 @@ returns-in_err-named-clause-stops g c =
       begins = all_one a from store name flown.0 all.begins;
       each = all.stands work;
     }))
+
+pub returns-clause-matched : goal.returns-clause-matched
+returns-clause-matched g c =
+    matched_behind (g.S.Shelf.told c.fly.new.shelf) (repo_view c.fly.new.source) (g.D.Shelf.told c.fly.new.depot) (g.D.Shelf.told c.tell_name.new.depot)
+    (repo_view c.fly.new.store.repo) (name_line (told_of c.in_ok-named.named) c.name.result.now) (g.D.Shelf.faults c.fly.new.depot)
+    (g.D.Shelf.faults c.tell_name.new.depot) c.in_ok-tell_name.ensures.works (matched_in c.fly.new.flight.work) c.in_ok-named.ensures.matched

@@ -19,7 +19,7 @@ use Rattle.ferry_piece.proofs.WorkLemmas.{err_is}
 use Rattle.ferry_carry.proofs.flight.Flight.copy.Goals as goal
 use Rattle.ferry_piece.specs.Adding.{AddsOn}
 use Rattle.ferry_carry.specs.Carrying.{origin}
-use Rattle.ferry_carry.specs.Flight.{IsFlown, WorkFits, flown_from}
+use Rattle.ferry_carry.specs.Flight.{IsFlown, WaitsMatched, WorkFits, flown_from}
 use Rattle.ferry_piece.specs.Gather.{KeepsStanding}
 use Rattle.ferry_carry.specs.Progress.{CopiesOn, IsCopiedSoFar}
 use Rattle.ferry_piece.specs.Puts.{Addition, AtBegin, border_behind}
@@ -138,6 +138,7 @@ returns-in-Ok-true-clause-works g c =
                       copied = so_far_later told later source after from.block from.most from.time named b now c.step.new.self (added ++ stepped.0)
                           ensures.both.source.same ensures.both.source.kept so_far;
                     });
+                matched = subst (WaitsMatched later after b (repo_view now.repo) flight.matches) (sym c.renew.ensures) tt;
               },
               refl,
             );

@@ -1,7 +1,8 @@
 use Rattle.std.proofs.Common.{rules, ◌≡◌, [], List, IfErr, sym, subst}
+use Rattle.ferry_carry.proofs.OverFlightLemmas.{ended_matched, waits_with}
 use Rattle.ferry_carry.proofs.TagLemmas.{unnamed_all}
 use Rattle.ferry_carry.proofs.flight.Flight.step.Goals as goal
-use Rattle.ferry_carry.specs.Flight.{TakesTurn, WorkFits, archive_adds, flown_from, met_by}
+use Rattle.ferry_carry.specs.Flight.{TakesTurn, WorkFits, archive_adds, flown_from, matched_in, met_by}
 use Rattle.ferry_carry.specs.States.{target_state}
 use Rattle.ferry_carry.specs.Turns.{ReadsWhere, StopsTurn}
 use Rattle.ferry_carry.specs.declared.flight.Work.{Work}
@@ -182,3 +183,16 @@ returns-in-Comparing-clause-reads g c =
     subst (λ (w : Work). ReadsWhere w (target_state (g.D.Shelf.told c.args.depot.now) (g.D.Shelf.faults c.args.depot.now) c.args.store.now)
     (target_state (g.D.Shelf.told c.compare.new.depot) (g.D.Shelf.faults c.compare.new.depot) c.compare.new.store) c.compare.result) (sym is)
     c.compare.ensures.reads
+
+pub take_first-requires-clause-matched : goal.take_first-requires-clause-matched
+take_first-requires-clause-matched g c =
+    let told = g.S.Shelf.told c.args.shelf.now in
+    let source = repo_view c.args.source.now in
+    let a = g.D.Shelf.told c.args.depot.now in
+    let is : c.args.self.now.work ≡ Waiting = search rules in
+    waits_with told source a c.args.store.now c.requires.flight.0 c.args.self.now is c.requires.flight.1
+
+pub returns-in-Copying-clause-matched : goal.returns-in-Copying-clause-matched
+returns-in-Copying-clause-matched g c =
+    ended_matched (g.S.Shelf.told c.copy.new.shelf) (repo_view c.copy.new.source) (g.D.Shelf.told c.copy.new.depot) (repo_view c.copy.new.store.repo)
+    (matched_in c.copy.new.self.work) c.copy.result c.copy.ensures.matched

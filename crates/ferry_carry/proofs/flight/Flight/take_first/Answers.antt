@@ -1,4 +1,4 @@
-use Rattle.std.proofs.Common.{rules, ◌≡◌, inr, MatchResult, [], ◌∷◌, Result, Err, refl, sym, IfErr, IsSome, subst, arith}
+use Rattle.std.proofs.Common.{rules, ◌≡◌, inr, MatchResult, [], ◌∷◌, Result, Err, refl, sym, IfErr, IsSome, OnOk, List, ℕ, ap, subst, arith}
 use Rattle.ferry_piece.proofs.AddingLemmas.{stops_unbroken}
 use Rattle.ferry_carry.proofs.FlightLemmas.{read_rest}
 use Rattle.ferry_carry.proofs.BegunLemmas.{begins_none, fills_begin, fills_there}
@@ -7,18 +7,22 @@ use Rattle.ferry_carry.proofs.UnnamedLemmas.{stands_within}
 use Rattle.ferry_carry.proofs.UnnamedLemmas.{turned_behind, turned_err}
 use Rattle.ferry_carry.proofs.GrowsLemmas.{most_from}
 use Rattle.ferry_carry.proofs.HeldLemmas.{held_nothing, held_within}
+use Rattle.ferry_carry.proofs.OverFlightLemmas.{ended_matched}
 use Rattle.ferry_carry.proofs.LeftLemmas.{left_here, left_read, left_usable, lefts_then}
 use Rattle.ferry_carry.proofs.ProgressEndLemmas.{begin_copied}
 use Rattle.ferry_carry.proofs.WorkLemmas.{carried_nothing}
 use Rattle.ferry_piece.proofs.WorkLemmas.{err_is}
 use Rattle.ferry_carry.proofs.flight.Flight.take_first.Goals as goal
-use Rattle.ferry_carry.specs.Flight.{FitsComparing, TakesTurn, flown_from, archive_adds}
+use Rattle.ferry_carry.specs.Flight.{FitsComparing, TakesTurn, flown_from, archive_adds, matched_in}
 use Rattle.ferry_piece.specs.Puts.{AtBegin, border_behind}
 use Rattle.ferry_piece.specs.declared.fault.CarryFault.{CarryFault}
+use Rattle.ferry_carry.specs.Turns.{FliesOn, StopsTurn}
+use Rattle.ferry_carry.specs.declared.flight.Flight.{Flight}
+use Rattle.ferry_carry.specs.declared.options.Options.{Options}
 use Rattle.ferry_carry.specs.declared.flight.Turn.{Turn}
 use Rattle.ferry_carry.specs.declared.flight.Turn.TheVariants.{Named}
 use Rattle.ferry_carry.proofs.MetLemmas.{stops_read, turn_read}
-use Rattle.ferry_compare.specs.Compare.{comparison_view, seen}
+use Rattle.ferry_compare.specs.Compare.{comparison_view, met_behind, seen}
 use Rattle.ferry_compare.specs.declared.comparison.Comparison.{Comparison}
 use Rattle.ferry_repo.specs.Archives.{archive_named}
 use Rattle.ferry_repo.specs.Opening.{RepoState, repo_view}
@@ -94,7 +98,13 @@ returns-in_ok-comparison-clause-works g c =
     let after = repo_view c.begin_comparing.new.source in
     let store = c.args.store.now in
     let middle = c.begin_comparing.new.store in
-    let flight = c.args.self.now in (
+    let flight = c.args.self.now in
+    let d = g.D.Shelf.told c.compare.new.depot in
+    let named = subst (λ (n : List ℕ). FitsComparing later after (g.D.Shelf.told c.begin_comparing.new.depot) (repo_view middle.repo) met n
+    c.in_ok-comparison.comparison) (sym (ap (λ (f : Flight). f.named.name) c.begin_comparing.ensures.others)) goes in
+    let works = subst (λ (f : Flight). TakesTurn (seen (g.S.Shelf.told c.compare.new.shelf) (repo_view c.compare.new.source)) (flown_from later after f)
+    (archive_adds f.named.name [] [] []) to to_now (met_behind walk met (seen d (repo_view c.compare.new.store.repo))) c.compare.new.self c.compare.result)
+    c.begin_comparing.ensures.others (c.compare.ensures.works met named) in (
       [],
       (
         [],
@@ -107,7 +117,7 @@ returns-in_ok-comparison-clause-works g c =
               c.in_ok-comparison.ensures.both.source.same c.begin_comparing.ensures.both.source.kept c.requires.both.target.accepts (read_rest store middle
               c.begin_comparing.ensures.both.target.read)
               (c.in_ok-comparison.ensures.works flight.options.checkpoint)
-              (turn_read _ _ _ _ walk to to_now _ c.compare.result c.compare.ensures.reads (c.compare.ensures.works met goes)),
+              (turn_read _ _ _ _ walk to to_now _ c.compare.result c.compare.ensures.reads works),
           unnamed_all _ (repo_view store.repo).keys (g.E.Entropy.drawn c.args.entropy.now) c.compare.result c.compare.ensures.only.unnamed,
         ),
       ),
@@ -191,8 +201,12 @@ compare-requires-clause-comparison g c =
       fits = c.in_ok-comparison.ensures.comparison;
       there = subst (λ (r : RepoState). IsSome (archive_named c.args.self.now.named.name r.manifest.archives))
           (sym c.begin_comparing.ensures.both.target.read.repo) there;
-    } in
-    (met, goes)
+    } in (
+      met,
+      subst (λ (n : List ℕ). FitsComparing (g.S.Shelf.told c.begin_comparing.new.shelf) (repo_view c.begin_comparing.new.source)
+          (g.D.Shelf.told c.begin_comparing.new.depot) (repo_view c.begin_comparing.new.store.repo) met n c.in_ok-comparison.comparison)
+          (sym (ap (λ (f : Flight). f.named.name) c.begin_comparing.ensures.others)) goes,
+    )
 
 pub copy-requires-clause-copy : goal.copy-requires-clause-copy
 copy-requires-clause-copy g c =
@@ -292,8 +306,10 @@ returns-in_ok-comparison-clause-turn g c = record {
   target =
       let store = c.args.store.now in
       let middle = c.begin_comparing.new.store in
+      let flies = subst (λ (o : Options). OnOk c.compare.result (FliesOn o.checkpoint c.compare.new.self.named.name middle (g.D.Shelf.told c.compare.new.depot)
+      c.compare.new.store)) (ap (λ (f : Flight). f.options) c.begin_comparing.ensures.others) c.compare.ensures.turn.target in
       flies_read {T = Turn} _ _ store middle (g.D.Shelf.told c.compare.new.depot) c.compare.new.store c.compare.result
-      (read_rest store middle c.begin_comparing.ensures.both.target.read) c.compare.ensures.turn.target;
+      (read_rest store middle c.begin_comparing.ensures.both.target.read) flies;
   turn = search rules;
 }
 
@@ -311,8 +327,15 @@ returns-in_ok-comparison-clause-refused g c =
     let to = target_state (g.D.Shelf.told c.begin_comparing.new.depot) (g.D.Shelf.faults c.begin_comparing.new.depot) c.begin_comparing.new.store in
     let to_now = target_state (g.D.Shelf.told c.compare.new.depot) (g.D.Shelf.faults c.compare.new.depot) c.compare.new.store in
     let walk = (comparison_view c.in_ok-comparison.comparison).other in
+    let named = subst (λ (n : List ℕ). FitsComparing (g.S.Shelf.told c.begin_comparing.new.shelf) (repo_view c.begin_comparing.new.source)
+    (g.D.Shelf.told c.begin_comparing.new.depot) (repo_view c.begin_comparing.new.store.repo) met n c.in_ok-comparison.comparison)
+    (sym (ap (λ (f : Flight). f.named.name) c.begin_comparing.ensures.others)) goes in
+    let refused = subst (λ (f : Flight). IfErr c.compare.result (StopsTurn (flown_from (g.S.Shelf.told c.begin_comparing.new.shelf)
+    (repo_view c.begin_comparing.new.source) f) (g.D.Shelf.told c.begin_comparing.new.depot) c.begin_comparing.new.store (g.D.Shelf.told c.compare.new.depot)
+    c.compare.new.store (met_behind walk met (seen (g.D.Shelf.told c.compare.new.depot) (repo_view c.compare.new.store.repo))) f.named))
+    c.begin_comparing.ensures.others (c.compare.ensures.refused met named) in
     let stops = stops_read (flown_from (g.S.Shelf.told c.begin_comparing.new.shelf) (repo_view c.begin_comparing.new.source) c.args.self.now) walk to to_now
-    c.args.self.now.named c.compare.result c.compare.ensures.reads (c.compare.ensures.refused met goes) in
+    c.args.self.now.named c.compare.result c.compare.ensures.reads refused in
     stops_turn {T = Turn} _ _ _ _ _ _ _ c.compare.result
     (let flight = c.args.self.now in
     let store = c.args.store.now in
@@ -370,3 +393,8 @@ returns-in_ok-copy-clause-refused g c =
     subst (λ (r : RepoState). IfErr c.copy.result (IsLimited (g.D.Shelf.told c.copy.new.depot) flight.options.timestamp r c.args.store.now flight.named))
     c.begin.ensures.source.kept (turn_limit {T = Turn} _ _ _ _ _ _ _ c.copy.result c.copy.ensures.refused))
     (turn_left {T = Turn} _ _ _ _ _ _ _ c.copy.result c.copy.ensures.refused)
+
+pub returns-in_ok-copy-clause-matched : goal.returns-in_ok-copy-clause-matched
+returns-in_ok-copy-clause-matched g c =
+    ended_matched (g.S.Shelf.told c.copy.new.shelf) (repo_view c.copy.new.source) (g.D.Shelf.told c.copy.new.depot) (repo_view c.copy.new.store.repo)
+    (matched_in c.copy.new.self.work) c.copy.result c.copy.ensures.matched

@@ -11,5 +11,5 @@ returns-in-Some-clause-content g c =
     let id = c.args.id.now in
     let content = c.in_ok-from_slice.field-0.items in
     told_then (g.S.Shelf.told c.args.shelf.now) (λ f. FitsRepo f (repo_view self) (cached_in self)) (λ f. HoldsChunk f self.log self.keys id content)
-    (λ f fits. kept_holds f self.log self.keys id content (cached_in self) fits.cached
+    (λ f fits. kept_holds f self.log self.keys id content (cached_in self).opened fits.cached
     (sym c.in-Some.ensures.content ∙ ap Some (sym c.in_ok-from_slice.ensures.items))) c.requires.fits

@@ -1,4 +1,4 @@
-use Rattle.std.proofs.Common.{◌≡◌, IfSome, sym, ◌∙◌, subst}
+use Rattle.std.proofs.Common.{IfSome, sym, ◌∙◌, subst}
 use Rattle.ferry_config.specs.declared.config.Config.{Config}
 use Rattle.ferry_disk.specs.Device.{told_files}
 use Rattle.ferry_disk.specs.Files.{contents_at}

@@ -1,0 +1,12 @@
+use Rattle.std.proofs.Common.{sym, subst}
+use Rattle.ferry_repo.specs.Noted.{IsNoted}
+use Rattle.ferry_repo.proofs.repo.Repo.note.Goals as goal
+
+pub returns-in-Ok-clause-fits : goal.returns-in-Ok-clause-fits
+returns-in-Ok-clause-fits c = λ files fits noted.
+    let self = c.args.self.now in
+    record {
+      log = fits.log;
+      cached = fits.cached;
+      noted = c.put.ensures.kept files self.log self.keys fits.noted (subst (IsNoted files self.log self.keys) (sym c.in-Ok.ensures.note) noted);
+    }
