@@ -371,13 +371,14 @@ def look_at_evidence():
 
 
 def look_at_edits():
-    """Each wrong body that the gate leaves out fits the code: its old lines stand there once, and the new ones are others."""
-    for path in sorted(glob.glob("checks/edits/*/*.edit", root_dir=TOP)):
+    """Each wrong body fits the code: its old lines stand there once, and the new ones are others."""
+    for path in sorted(path for place in EDITS for path in glob.glob(f"{place}/*.edit", root_dir=TOP)):
+        crate = path.removeprefix("checks/edits/").removeprefix("crates/").split("/")[0]
         file, old, fits = "", "", False
         for line in read(path).splitlines():
             kind, _, text = line.partition(":")
             if kind == "file":
-                file = f"crates/{path.split('/')[2]}/{text.strip()}"
+                file = f"crates/{crate}/{text.strip()}"
             elif kind == "old":
                 old = text[1:]
             elif kind == "new":
