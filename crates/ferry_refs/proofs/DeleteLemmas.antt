@@ -1,5 +1,5 @@
 -- Lemmas on specs/Deleting.antt: what was read, dropped and committed is a deletion.
-use Rattle.std.proofs.Common.{◌≡◌, ◌≢◌, ℕ, false, List, length, Option, Result, Ok, Err, IfSome, sym, ◌∙◌, ap, subst}
+use Rattle.std.proofs.Common.{◌≡◌, ◌≢◌, ℕ, false, List, length, Option, Some, None, Result, Ok, Err, IfSome, sym, ◌∙◌, ap, subst}
 use Rattle.std.proofs.lemmas.Option.{IfSome_then}
 use Rattle.ferry_piece.proofs.FaultLemmas.{failed_target}
 use Rattle.ferry_piece.proofs.WorkLemmas.{works_err, works_nothing, works_ok}
@@ -19,6 +19,7 @@ use Rattle.ferry_repo.specs.declared.fault.RepoFault.TheVariants as Repos
 use Rattle.ferry_nonce.specs.declared.fault.NonceFault.TheVariants as Nonces
 use Rattle.ferry_refs.specs.DeleteSteps.{DeletesWith, ReadsGoing, RefusesGoing, RefusesWith, SoundWith}
 use Rattle.ferry_refs.specs.Deleting.{AreGoing, Deletes, DeletesSound, LeavesCommitted, RefusesDelete, ShowsEither, next_without, with_deleted}
+use Rattle.ferry_refs.specs.Refs.{AllRead}
 use Rattle.ferry_stops.specs.Tells.{TellsNothing}
 use Rattle.ferry_store.proofs.StepLemmas.{did_then, moments_then}
 use Rattle.ferry_store.specs.Causes.{StopsAt}
@@ -149,6 +150,12 @@ module _ (name time : List ℕ) (store : Store) where
 
 -- ---- refusals
 
+-- behind what was read all archives read
+pub all_read : (store read : Store) (name : List ℕ) (ids : List (List ℕ)) (a b : Option Told)
+    → Between a b (λ h g. AllDone h g × ReadsGoing name ids store read h g) → IfSome a (λ t. AllRead (told_files t) (repo_view store.repo))
+all_read store read name ids None b done = tt
+all_read store read name ids (Some t) b done = let going = done.2.1.going in (going.reads, going.are_read)
+
 module _ (told now : Option Told) (repo : RepoState) (name time : List ℕ) (named : IsNamed repo name) where
   -- What a refusal says.
   abbrev Refuses : CarryFault → Type 0
@@ -179,25 +186,16 @@ module _ (told now : Option Told) (repo : RepoState) (name time : List ℕ) (nam
   read_refused Refusal.Memory refused = told_any told (λ f. Unit {0}) (λ f. tt)
 
   -- it wasn't deleted
-  pub delete_refused : (refusal : StoreRefusal) → RefusesWith repo name time now refusal
+  pub delete_refused : (refusal : StoreRefusal) → IfSome told (λ t. AllRead (told_files t) repo) → RefusesWith repo name time now refusal
       → IfSome now (λ t. StopsAt t.history.start (told_files t) repo.keys refusal) → Refuses (target_fault refusal)
-  delete_refused (Refusal.Repo fault) refused stops = absurd refused
-  delete_refused (Refusal.Write fault) refused stops =
-      told_any told (λ f. RefusesDelete f repo name time now (Carry.Target (Refusal.Write fault))) (λ f. (named, stops))
-  delete_refused (Refusal.Nonce Nonces.Exhausted) refused stops =
-      told_any told (λ f. RefusesDelete f repo name time now (Carry.Target (Refusal.Nonce Nonces.Exhausted))) (λ f. (named, refused))
-  delete_refused (Refusal.Nonce Nonces.Missing) refused stops =
-      told_any told (λ f. RefusesDelete f repo name time now (Carry.Target (Refusal.Nonce Nonces.Missing))) (λ f. (named, stops))
-  delete_refused (Refusal.Nonce Nonces.Text) refused stops =
-      told_any told (λ f. RefusesDelete f repo name time now (Carry.Target (Refusal.Nonce Nonces.Text))) (λ f. (named, stops))
-  delete_refused (Refusal.Nonce Nonces.Device) refused stops =
-      told_any told (λ f. RefusesDelete f repo name time now (Carry.Target (Refusal.Nonce Nonces.Device))) (λ f. (named, stops))
-  delete_refused (Refusal.Nonce Nonces.Memory) refused stops =
-      told_any told (λ f. RefusesDelete f repo name time now (Carry.Target (Refusal.Nonce Nonces.Memory))) (λ f. (named, stops))
-  delete_refused Refusal.Committed refused stops =
-      told_any told (λ f. RefusesDelete f repo name time now (Carry.Target Refusal.Committed)) (λ f. (named, stops))
-  delete_refused Refusal.TooLarge refused stops =
-      told_any told (λ f. RefusesDelete f repo name time now (Carry.Target Refusal.TooLarge)) (λ f. (named, refused))
-  delete_refused Refusal.Entropy refused stops =
-      told_any told (λ f. RefusesDelete f repo name time now (Carry.Target Refusal.Entropy)) (λ f. (named, stops))
-  delete_refused Refusal.Memory refused stops = told_any told (λ f. Unit {0}) (λ f. tt)
+  delete_refused (Refusal.Repo fault) read refused stops = absurd refused
+  delete_refused (Refusal.Write fault) read refused stops = IfSome_then told read (λ t r. (named, (r, stops)))
+  delete_refused (Refusal.Nonce Nonces.Exhausted) read refused stops = IfSome_then told read (λ t r. (named, (r, refused)))
+  delete_refused (Refusal.Nonce Nonces.Missing) read refused stops = IfSome_then told read (λ t r. (named, (r, stops)))
+  delete_refused (Refusal.Nonce Nonces.Text) read refused stops = IfSome_then told read (λ t r. (named, (r, stops)))
+  delete_refused (Refusal.Nonce Nonces.Device) read refused stops = IfSome_then told read (λ t r. (named, (r, stops)))
+  delete_refused (Refusal.Nonce Nonces.Memory) read refused stops = IfSome_then told read (λ t r. (named, (r, stops)))
+  delete_refused Refusal.Committed read refused stops = IfSome_then told read (λ t r. (named, (r, stops)))
+  delete_refused Refusal.TooLarge read refused stops = IfSome_then told read (λ t r. (named, (r, refused)))
+  delete_refused Refusal.Entropy read refused stops = IfSome_then told read (λ t r. (named, (r, stops)))
+  delete_refused Refusal.Memory read refused stops = told_any told (λ f. Unit {0}) (λ f. tt)

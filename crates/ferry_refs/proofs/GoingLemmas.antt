@@ -348,6 +348,8 @@ are_going files repo name all own read increasing counts is adds ordered =
     let first = counts [] in
     let rest = are_others files repo name increasing read first.reads is first.are_read in
     record {
+      reads = first.reads;
+      are_read = first.are_read;
       sorted = IsStrictlySortedBy-filter key_cmp test (keys own.counts) ordered;
       each = λ id.
           let falls = falls_by files repo name increasing read (count_in own) (count_in all) rest adds counts id in (

@@ -12,7 +12,7 @@ use Rattle.ferry_piece.specs.declared.fault.CarryFault.{CarryFault}
 use Rattle.ferry_piece.specs.declared.fault.CarryFault.TheVariants as Carry
 use Rattle.ferry_nonce.specs.declared.fault.NonceFault.TheVariants as Nonces
 use Rattle.ferry_refs.specs.Deleting.{AreGoing, Goes, RefusesDelete, without_name}
-use Rattle.ferry_refs.specs.Refs.{EndsStream, Refs, RefusesRead, RefusesRefs}
+use Rattle.ferry_refs.specs.Refs.{AllRead, EndsStream, Refs, RefusesRead, RefusesRefs}
 use Rattle.ferry_repo.specs.Archives.{HoldsRecord, RefusesNamed, RefusesRecord, archive_named}
 use Rattle.ferry_repo.specs.Fault.{IsOfFiles}
 use Rattle.ferry_repo.specs.Objects.{HasBlob, HoldsChunk, RefusesChunk}
@@ -180,6 +180,8 @@ goes_same files other repo name id lie goes = record {
 pub going_same : (files other : Files) (repo : RepoState) (name : List ℕ) (ids : List (List ℕ)) → LieIn files other repo → LieIn other files repo
     → AreGoing files repo name ids → AreGoing other repo name ids
 going_same files other repo name ids lie back going = record {
+  reads = going.reads;
+  are_read = are_read_same files other repo lie repo.manifest.archives going.reads going.are_read;
   sorted = going.sorted;
   each = λ id. (
     λ among. goes_same files other repo name id lie ((going.each id).0 among),
@@ -192,6 +194,13 @@ going_same files other repo name ids lie back going = record {
 of_files_same : (files other : Files) (repo : RepoState) (name : List ℕ) (fault : RepoFault) → LieIn files other repo
     → IsNamed repo name × (IsOfFiles fault × RefusesRefs files repo fault) → IsNamed repo name × (IsOfFiles fault × RefusesRefs other repo fault)
 of_files_same files other repo name fault lie refused = (refused.0, (refused.1.0, refs_refused_same files other repo lie fault refused.1.1))
+
+-- what holds where all archives read
+all_read_same : {Says : Type 0} (files other : Files) (repo : RepoState) (name : List ℕ) → LieIn files other repo
+    → IsNamed repo name × (AllRead files repo × Says) → IsNamed repo name × (AllRead other repo × Says)
+all_read_same files other repo name lie refused =
+    let read = refused.1.0 in
+    (refused.0, ((read.0, are_read_same files other repo lie repo.manifest.archives read.0 read.1), refused.1.1))
 
 pub delete_refused_same : (files other : Files) (repo : RepoState) (name time : List ℕ) (now : Option Told) (fault : CarryFault) → LieIn files other repo
     → RefusesDelete files repo name time now fault → RefusesDelete other repo name time now fault
@@ -225,16 +234,16 @@ delete_refused_same files other repo name time now (Carry.Target (Stores.Repo Re
     of_files_same files other repo name Repos.NoKey lie refused
 delete_refused_same files other repo name time now (Carry.Target (Stores.Repo Repos.Memory)) lie refused =
     of_files_same files other repo name Repos.Memory lie refused
-delete_refused_same files other repo name time now (Carry.Target (Stores.Write f)) lie refused = refused
-delete_refused_same files other repo name time now (Carry.Target (Stores.Nonce Nonces.Missing)) lie refused = refused
-delete_refused_same files other repo name time now (Carry.Target (Stores.Nonce Nonces.Text)) lie refused = refused
-delete_refused_same files other repo name time now (Carry.Target (Stores.Nonce Nonces.Exhausted)) lie refused = refused
-delete_refused_same files other repo name time now (Carry.Target (Stores.Nonce Nonces.Device)) lie refused = refused
-delete_refused_same files other repo name time now (Carry.Target (Stores.Nonce Nonces.Memory)) lie refused = refused
-delete_refused_same files other repo name time now (Carry.Target Stores.Committed) lie refused = refused
-delete_refused_same files other repo name time now (Carry.Target Stores.TooLarge) lie refused = refused
-delete_refused_same files other repo name time now (Carry.Target Stores.Entropy) lie refused = refused
-delete_refused_same files other repo name time now (Carry.Target Stores.Memory) lie refused = refused
+delete_refused_same files other repo name time now (Carry.Target (Stores.Write f)) lie refused = all_read_same files other repo name lie refused
+delete_refused_same files other repo name time now (Carry.Target (Stores.Nonce Nonces.Missing)) lie refused = all_read_same files other repo name lie refused
+delete_refused_same files other repo name time now (Carry.Target (Stores.Nonce Nonces.Text)) lie refused = all_read_same files other repo name lie refused
+delete_refused_same files other repo name time now (Carry.Target (Stores.Nonce Nonces.Exhausted)) lie refused = all_read_same files other repo name lie refused
+delete_refused_same files other repo name time now (Carry.Target (Stores.Nonce Nonces.Device)) lie refused = all_read_same files other repo name lie refused
+delete_refused_same files other repo name time now (Carry.Target (Stores.Nonce Nonces.Memory)) lie refused = all_read_same files other repo name lie refused
+delete_refused_same files other repo name time now (Carry.Target Stores.Committed) lie refused = all_read_same files other repo name lie refused
+delete_refused_same files other repo name time now (Carry.Target Stores.TooLarge) lie refused = all_read_same files other repo name lie refused
+delete_refused_same files other repo name time now (Carry.Target Stores.Entropy) lie refused = all_read_same files other repo name lie refused
+delete_refused_same files other repo name time now (Carry.Target Stores.Memory) lie refused = all_read_same files other repo name lie refused
 delete_refused_same files other repo name time now Carry.Memory lie refused = tt
 delete_refused_same files other repo name time now (Carry.Source f) lie refused = absurd refused
 delete_refused_same files other repo name time now (Carry.Taken taken) lie refused = absurd refused

@@ -7,7 +7,7 @@ use Rattle.ferry_base.specs.Limits.{content_limit, zero_id}
 use Rattle.ferry_blob.specs.Blob.{blocks}
 use Rattle.ferry_piece.specs.declared.fault.CarryFault.{CarryFault}
 use Rattle.ferry_piece.specs.declared.fault.CarryFault.TheVariants.{Target, NotFound, Memory}
-use Rattle.ferry_check.specs.Report.{is_among}
+use Rattle.ferry_check.specs.Report.{ArchiveRead, AreRead, is_among}
 use Rattle.ferry_check.specs.Verify.{IsChunk, IsNamed}
 use Rattle.ferry_disk.specs.Act.{History, files_now}
 use Rattle.ferry_disk.specs.Device.{Told, told_files}
@@ -18,7 +18,7 @@ use Rattle.ferry_manifest.specs.Manifest.Text.{ManifestText}
 use Rattle.ferry_manifest.specs.Manifest.Writing.{manifest_text}
 use Rattle.ferry_next.specs.Next.{without_entry, written_at}
 use Rattle.ferry_nonce.specs.declared.fault.NonceFault.TheVariants as Nonces
-use Rattle.ferry_refs.specs.Refs.{Refs, RefusesRefs}
+use Rattle.ferry_refs.specs.Refs.{AllRead, Refs, RefusesRefs}
 use Rattle.ferry_repo.specs.Archives.{archive_named}
 use Rattle.ferry_repo.specs.Fault.{IsOfFiles}
 use Rattle.ferry_repo.specs.Objects.{HasBlob}
@@ -53,8 +53,10 @@ pub record Goes (files : Files) (repo : RepoState) (name id : List ℕ) : Type 0
   pub chunk : IsChunk repo.log id
   pub falls : FallsAway files repo name id
 
--- These are the ids of all chunks that go with the archive of a name, in byte order, each once.
+-- Each archive reads, and these are the ids of all chunks that go with the archive of a name, in byte order, each once.
 pub record AreGoing (files : Files) (repo : RepoState) (name : List ℕ) (ids : List (List ℕ)) : Type 0 where
+  pub reads : List ArchiveRead
+  pub are_read : AreRead files repo repo.manifest.archives reads
   pub sorted : IsStrictlySortedBy key_cmp ids
   pub each : (id : List ℕ) → (is_among id ids ≡ true) ↔ Goes files repo name id
 
@@ -134,15 +136,16 @@ abbrev pub LacksManifestBlocks : RepoState → List ℕ → List ℕ → Files �
 LacksManifestBlocks repo name time start now = (salt : List ℕ) × ((length salt ≡ 64)
     × LacksBlocks start now (blocks (length (manifest_text repo.keys salt (next_without repo.manifest name time)))))
 
--- Why an archive isn't deleted: there is none of its name; or there is, and an archive's record or stream doesn't read, or what a refusal of the target says
--- holds of its files as they are then.
+-- Why an archive isn't deleted: there is none of its name; or there is, and an archive's record or stream doesn't read; or all read, and what a refusal of
+-- the target says holds of its files as they are then.
 abbrev pub RefusesDelete : Files → RepoState → List ℕ → List ℕ → Option Told → CarryFault → Type 0
 RefusesDelete files repo name time now (NotFound missing) = (missing ≡ name) × (archive_named name repo.manifest.archives ≡ None)
 RefusesDelete files repo name time now (Target (Repo Repos.Device)) = Unit {0}
 RefusesDelete files repo name time now (Target (Repo fault)) = IsNamed repo name × (IsOfFiles fault × RefusesRefs files repo fault)
-RefusesDelete files repo name time now (Target TooLarge) = IsNamed repo name × HasLargeManifest repo name time
+RefusesDelete files repo name time now (Target TooLarge) = IsNamed repo name × (AllRead files repo × HasLargeManifest repo name time)
 RefusesDelete files repo name time now (Target (Nonce Nonces.Exhausted)) =
-    IsNamed repo name × IfSome now (λ t. LacksManifestBlocks repo name time t.history.start (told_files t))
-RefusesDelete files repo name time now (Target refusal) = IsNamed repo name × IfSome now (λ t. StopsAt t.history.start (told_files t) repo.keys refusal)
+    IsNamed repo name × (AllRead files repo × IfSome now (λ t. LacksManifestBlocks repo name time t.history.start (told_files t)))
+RefusesDelete files repo name time now (Target refusal) =
+    IsNamed repo name × (AllRead files repo × IfSome now (λ t. StopsAt t.history.start (told_files t) repo.keys refusal))
 RefusesDelete files repo name time now Memory = Unit {0}
 RefusesDelete files repo name time now fault = ⊥

@@ -31,6 +31,10 @@ pub record Refs (files : Files) (repo : RepoState) (id : List ℕ) (count : ℕ)
 abbrev pub count_in : Counts → List ℕ → ℕ
 count_in counts id = unwrap_or (get key_cmp counts.counts id) 0
 
+-- The record and the stream of each archive of the manifest read.
+abbrev pub AllRead : Files → RepoState → Type 0
+AllRead files repo = (reads : List ArchiveRead) × AreRead files repo repo.manifest.archives reads
+
 -- Each id is counted as often as the archives of the manifest use it.
 abbrev pub CountsRefs : Files → RepoState → Counts → Type 0
 CountsRefs files repo counts = (id : List ℕ) → Refs files repo id (count_in counts id)

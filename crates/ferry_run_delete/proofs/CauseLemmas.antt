@@ -14,7 +14,7 @@ use Rattle.ferry_piece.specs.declared.fault.CarryFault.TheVariants as Carry
 use Rattle.ferry_refs.proofs.LawLemmas.{refs_apart}
 use Rattle.ferry_refs.proofs.SameLemmas.{delete_refused_same}
 use Rattle.ferry_refs.specs.Deleting.{RefusesDelete, time_of}
-use Rattle.ferry_refs.specs.Refs.{RefusesRefs}
+use Rattle.ferry_refs.specs.Refs.{AllRead, RefusesRefs}
 use Rattle.ferry_repo.proofs.LawLemmas.{one_repo, repo_apart}
 use Rattle.ferry_repo.specs.Fault.{IsOfFiles}
 use Rattle.ferry_repo.specs.Opening.{OpensFilesTo, RefusesRepo, RepoState, repo_view}
@@ -71,16 +71,16 @@ told_stops None repo = tt
 told_stops (Some t) repo = tt
 
 telling_refuses : (asked : Deletion) (start : Files) (now : Option Told) (repo : RepoState) (refusal : StoreRefusal) → IsNamed repo asked.name
-    → RefusesTelling refusal → RefusesDelete start repo asked.name (time_of asked.timestamp repo.manifest) now (target_fault refusal)
-telling_refuses asked start now repo (Stores.Write Writes.Device) there refused = (there, told_stops now repo)
-telling_refuses asked start now repo (Stores.Write Writes.Memory) there refused = absurd refused
-telling_refuses asked start now repo (Stores.Write Writes.Numbers) there refused = absurd refused
-telling_refuses asked start now repo Stores.Memory there refused = tt
-telling_refuses asked start now repo (Stores.Repo fault) there refused = absurd refused
-telling_refuses asked start now repo (Stores.Nonce fault) there refused = absurd refused
-telling_refuses asked start now repo Stores.Committed there refused = absurd refused
-telling_refuses asked start now repo Stores.TooLarge there refused = absurd refused
-telling_refuses asked start now repo Stores.Entropy there refused = absurd refused
+    → AllRead start repo → RefusesTelling refusal → RefusesDelete start repo asked.name (time_of asked.timestamp repo.manifest) now (target_fault refusal)
+telling_refuses asked start now repo (Stores.Write Writes.Device) there read refused = (there, (read, told_stops now repo))
+telling_refuses asked start now repo (Stores.Write Writes.Memory) there read refused = absurd refused
+telling_refuses asked start now repo (Stores.Write Writes.Numbers) there read refused = absurd refused
+telling_refuses asked start now repo Stores.Memory there read refused = tt
+telling_refuses asked start now repo (Stores.Repo fault) there read refused = absurd refused
+telling_refuses asked start now repo (Stores.Nonce fault) there read refused = absurd refused
+telling_refuses asked start now repo Stores.Committed there read refused = absurd refused
+telling_refuses asked start now repo Stores.TooLarge there read refused = absurd refused
+telling_refuses asked start now repo Stores.Entropy there read refused = absurd refused
 
 pub untold_refused : (asked : Deletion) (count : ℕ) (a b c : Option Told) (refusal : StoreRefusal)
     → Between a b (λ h g. AllDone h g × GoesAway asked.secret asked.name asked.timestamp count h g) → RefusesTelling refusal
@@ -91,7 +91,7 @@ untold_refused asked count (Some t) b c refusal deleted refused = λ begun.
     inr (record {
       repo = gone.repo;
       opens = gone.opens;
-      holds = telling_refuses asked (told_files t) c gone.repo refusal gone.there refused;
+      holds = telling_refuses asked (told_files t) c gone.repo refusal gone.there (gone.going.reads, gone.going.are_read) refused;
     })
 
 -- a line that isn't told is no refusal of what was asked for
@@ -178,14 +178,14 @@ module _ (asked : Deletion) (start : Files) (now : Told) (ready : OpensNumbered 
   deleting_ends (Carry.Target (Stores.Repo Repos.Memory)) refused = tt
   deleting_ends (Carry.Target (Stores.Write Writes.Device)) refused = tt
   deleting_ends (Carry.Target (Stores.Write Writes.Memory)) refused = tt
-  deleting_ends (Carry.Target (Stores.Write Writes.Numbers)) refused = refused.1
-  deleting_ends (Carry.Target (Stores.Nonce Nonces.Missing)) refused = absurd refused.1
-  deleting_ends (Carry.Target (Stores.Nonce Nonces.Text)) refused = absurd refused.1
-  deleting_ends (Carry.Target (Stores.Nonce Nonces.Exhausted)) refused = refused.1
+  deleting_ends (Carry.Target (Stores.Write Writes.Numbers)) refused = refused.1.1
+  deleting_ends (Carry.Target (Stores.Nonce Nonces.Missing)) refused = absurd refused.1.1
+  deleting_ends (Carry.Target (Stores.Nonce Nonces.Text)) refused = absurd refused.1.1
+  deleting_ends (Carry.Target (Stores.Nonce Nonces.Exhausted)) refused = refused.1.1
   deleting_ends (Carry.Target (Stores.Nonce Nonces.Device)) refused = tt
   deleting_ends (Carry.Target (Stores.Nonce Nonces.Memory)) refused = tt
-  deleting_ends (Carry.Target Stores.Committed) refused = absurd refused.1
-  deleting_ends (Carry.Target Stores.TooLarge) refused = refused.1
+  deleting_ends (Carry.Target Stores.Committed) refused = absurd refused.1.1
+  deleting_ends (Carry.Target Stores.TooLarge) refused = refused.1.1
   deleting_ends (Carry.Target Stores.Entropy) refused = tt
   deleting_ends (Carry.Target Stores.Memory) refused = tt
   deleting_ends Carry.Memory refused = tt

@@ -28,7 +28,8 @@ LeavesOthers secret name timestamp start before gone image = KeepsOthers secret 
 
 -- ---- the end
 
--- The target's files opened, with an archive of the name, and now they open without it, and without the chunks that no other used: so many, which is told.
+-- The target's files opened, with an archive of the name, and each archive read; now they open without it, and without the chunks that no other used: so
+-- many, which is told.
 pub record HasDeleted (secret : Secret) (name : List ℕ) (timestamp : Option (List ℕ)) (before now : History) : Type 0 where
   pub repo : RepoState
   pub opens : OpensFilesTo (files_now before) secret repo

@@ -1,10 +1,10 @@
 -- What a command asks of what its devices tell, and that it is done where that is there.
 use Rattle.std.specs.Prelude.{ℕ, List, Option, Some, None}
 use Rattle.ferry_check.specs.Verify.{IsNamed, Verifies}
-use Rattle.ferry_check.specs.Report.{ArchiveRead, AreRead}
 use Rattle.ferry_disk.specs.Device.{Told, told_files}
 use Rattle.ferry_disk.specs.Files.{Files, contents_at}
 use Rattle.ferry_disk.specs.declared.name.Name.TheVariants.{Config}
+use Rattle.ferry_refs.specs.Refs.{AllRead}
 use Rattle.ferry_repo.specs.Opening.{OpensFilesTo, RepoState}
 use Rattle.ferry_repo.specs.declared.secret.Secret.{Secret}
 use Rattle.ferry_run_compact.specs.Compact.{IsCompactedUnless, ReadsTarget}
@@ -50,10 +50,6 @@ abbrev pub IsReadyToCopy : Request → Drawn → Files → Told → Told → Typ
 IsReadyToCopy request drawn source start now = (ready : IsReadyFor request drawn source (told_files start))
     × ((keeps : KeepsArchives request (told_files start) ready.repo.manifest (lines_of now.history.acts) (told_files now))
     × NoneCollide request (told_files start) keeps.begun)
-
--- The record and the stream of each archive of a repository read.
-abbrev pub AllRead : Files → RepoState → Type 0
-AllRead files repo = (reads : List ArchiveRead) × AreRead files repo repo.manifest.archives reads
 
 -- what each command asks of what the source and the target tell before it, and `transfer` and `tag-archives` also of what the target tells behind it,
 -- `transfer` of what was drawn too

@@ -1,4 +1,4 @@
-use Rattle.std.proofs.Common.{rules, ◌≡◌, ℕ, length, List, Result, Ok, Err, IfErr, refl, sym, ◌∙◌, ap, subst}
+use Rattle.std.proofs.Common.{rules, ◌≡◌, ℕ, length, List, Result, Ok, Err, IfErr, IfSome, refl, sym, ◌∙◌, ap, subst}
 use Rattle.std.specs.Option.{option_copied}
 use Rattle.ferry_disk.specs.Moments.{Between}
 use Rattle.ferry_piece.proofs.WorkLemmas.{err_is}
@@ -6,10 +6,14 @@ use Rattle.ferry_piece.specs.Fault.{IsOfWork, target_fault}
 use Rattle.ferry_piece.specs.Work.{Works}
 use Rattle.ferry_piece.specs.declared.fault.CarryFault.{CarryFault}
 use Rattle.ferry_piece.specs.declared.fault.CarryFault.TheVariants as Carry
-use Rattle.ferry_refs.proofs.DeleteLemmas.{did_at, keeps_behind, works_done, works_here, works_memory, works_undone, works_unread}
+use Rattle.ferry_refs.proofs.DeleteLemmas.{all_read, delete_refused, did_at, keeps_behind, works_done, works_here, works_memory, works_undone, works_unread}
 use Rattle.ferry_refs.proofs.DropLemmas.{leaves_here, untold_then}
 use Rattle.ferry_refs.proofs.deleting.delete.Goals as goal
-use Rattle.ferry_refs.specs.Deleting.{Deletes, DeletesSound, LeavesCommitted, time_of}
+use Rattle.ferry_check.specs.Verify.{IsNamed}
+use Rattle.ferry_disk.specs.Device.{told_files}
+use Rattle.ferry_refs.specs.DeleteSteps.{RefusesWith}
+use Rattle.ferry_refs.specs.Deleting.{Deletes, DeletesSound, LeavesCommitted, RefusesDelete, time_of}
+use Rattle.ferry_store.specs.Causes.{StopsAt}
 use Rattle.ferry_repo.specs.Opening.{RepoState, repo_view}
 use Rattle.ferry_stops.specs.Tells.{TellsNothing}
 use Rattle.ferry_store.proofs.StepLemmas.{here_each}
@@ -155,3 +159,31 @@ pub returns-clause-untold : goal.returns-clause-untold
 returns-clause-untold g c =
     untold_then (g.D.Shelf.told c.args.depot.now) (g.D.Shelf.told c.read_going.new.depot) (g.D.Shelf.told c.delete_with.new.depot)
     c.in_ok-going.ensures.untold c.in_ok-delete_with.ensures.untold
+
+pub returns-in_err-delete_with-clause-refused : goal.returns-in_err-delete_with-clause-refused
+returns-in_err-delete_with-clause-refused g c =
+    let store = c.args.store.now in
+    let read = c.read_going.new.store in
+    let name = c.args.name.now in
+    let repo = repo_view store.repo in
+    let time = time_of (option_copied c.args.timestamp) repo.manifest in
+    let ids = c.deref-2.result.now in
+    let a = g.D.Shelf.told c.args.depot.now in
+    let b = g.D.Shelf.told c.read_going.new.depot in
+    let d = g.D.Shelf.told c.delete_with.new.depot in
+    let n = g.D.Shelf.faults c.args.depot.now in
+    let m = g.D.Shelf.faults c.read_going.new.depot in
+    let refusal = c.in_err-delete_with.field-0.0 in
+    let same = c.in_ok-going.ensures.read.repo in
+    let time_is : c.deref.result.now ≡ time =
+    c.deref.ensures.value ∙ (c.in_ok-time.ensures.time ∙ ap (λ (r : RepoState). time_of (option_copied c.args.timestamp) r.manifest) same) in
+    let read_ids = did_at name (λ v. v.items) ids store read a b n m c.in_ok-going.going c.deref-2.ensures.value c.in_ok-going.ensures.did in
+    let named : IsNamed repo name = search rules in
+    let refused : RefusesWith repo name time d refusal = subst (λ (t : List ℕ). RefusesWith repo name t d refusal) time_is
+    (subst (λ (r : RepoState). RefusesWith r name c.deref.result.now d refusal) same c.in_err-delete_with.ensures.refused) in
+    let stops : IfSome d (λ t. StopsAt t.history.start (told_files t) repo.keys refusal) =
+    subst (λ (r : RepoState). IfSome d (λ t. StopsAt t.history.start (told_files t) r.keys refusal)) same c.in_err-delete_with.ensures.stops in
+    err_is c.from_residual-in_err-delete_with.result (target_fault refusal)
+    (λ (r : Result ℕ CarryFault). IfErr r (λ (f : CarryFault). IfSome a (λ t. RefusesDelete (told_files t) repo name time d f)))
+    c.from_residual-in_err-delete_with.ensures.1
+    (delete_refused a d repo name time named refusal (all_read store read name ids a b read_ids.end) refused stops)
