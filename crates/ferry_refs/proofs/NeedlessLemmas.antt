@@ -11,14 +11,18 @@ use Rattle.ferry_refs.specs.Refs.{occurrences}
 use Rattle.ferry_refs.specs.Tagging.{AreOld, IsFreed, IsUntagged, KeepsArchives}
 
 -- where each record has a tag already, the archives are left as they are behind the tagging, too
-pub needless_left : (secret : Secret) (start image : Files) (repo : RepoState) → AreOld start repo repo.manifest.archives []
-    → KeepsArchives secret start repo false image → KeepsArchives secret start repo true image
-needless_left secret start image repo none keeps = record {
+pub needless_left : (secret : Secret) (start image : Files) (repo : RepoState) (time : List ℕ) → AreOld start repo repo.manifest.archives []
+    → KeepsArchives secret start repo time false image → KeepsArchives secret start repo time true image
+needless_left secret start image repo time none keeps = record {
   repo = keeps.repo;
   opens = keeps.opens;
   config = keeps.config;
   names = keeps.names;
+  olds = keeps.olds;
+  are_tagged = subst (AreOld start repo repo.manifest.archives) (sym keeps.are_tagged) none;
   texts = keeps.texts;
+  renewals = keeps.renewals;
+  manifest = keeps.manifest;
   wholes = keeps.wholes;
   untagged = λ scope apart all within name. (
     λ u. absurd (no_untagged name ((keeps.untagged scope apart all within name).0 u).0),

@@ -1,5 +1,5 @@
 -- Lemmas on specs/TagSteps.antt: records that were added come under the names of their archives, and all is committed.
-use Rattle.std.proofs.Common.{◌≡◌, ◌≢◌, inl, inr, ℕ, suc, Bool, false, List, [], ◌∷◌, length, map, Option, Ok, Err}
+use Rattle.std.proofs.Common.{◌≡◌, ◌≢◌, ◌<◌, arith, inl, inr, ℕ, suc, Bool, false, List, [], ◌∷◌, length, map, Option, Ok, Err}
 use Rattle.std.proofs.Common.{refl, sym, ◌∙◌, ap, subst}
 use Rattle.std.specs.List.{AllByRecursion}
 use Rattle.ferry_check.specs.Verify.{IsChunk}
@@ -75,7 +75,7 @@ viewed_archives (u ∷ us) = ap (λ (l : List ArchiveRef). u.named ∷ l) (viewe
 
 module _ (time : List ℕ) (olds : List OldRecord) (texts : List (List ℕ)) (freed : List (List ℕ)) (store added named last : Store)
     (same : KeepsRepo (repo_view store.repo) (repo_view added.repo)) (rest : named ≡ record added { accepted = named.accepted })
-    (renewals : AreRenewals (repo_view store.repo).keys olds texts)
+    (some : olds ≢ []) (renewals : AreRenewals (repo_view store.repo).keys olds texts)
     (accepted : accepted_in named
     ≡ renewed (repo_view store.repo).manifest (renewed_entries (archives_in olds) (ids_under (repo_view store.repo).keys texts))) where
   -- the manifest that is committed
@@ -102,6 +102,7 @@ module _ (time : List ℕ) (olds : List OldRecord) (texts : List (List ℕ)) (fr
       inr (record {
         olds = olds;
         are_old = are_old;
+        some = some;
         texts = texts;
         renewals = renewals;
         puts = puts;
@@ -138,6 +139,7 @@ module _ (time : List ℕ) (olds : List OldRecord) (texts : List (List ℕ)) (fr
       inr (record {
         olds = olds;
         are_old = are_old;
+        some = some;
         count_is = refl;
         texts = texts;
         renewals = renewals;
@@ -223,6 +225,11 @@ module _ (time : List ℕ) (olds : List OldRecord) (freed : List (List ℕ)) (st
   }
 
 -- ---- the steps of a body
+
+-- where some archives were found, there are some old records
+pub some_olds : (untagged : List Untagged) → 0 < length untagged → olds_view untagged ≢ []
+some_olds [] some none = absurd (omega (arith, some))
+some_olds (u ∷ us) some none = let no : ⊥ = cc in no
 
 -- there are as many texts as records
 pub renewals_length : (keys : Keys) (untagged : List Untagged) (texts : List (List ℕ)) → AreRenewals keys (olds_view untagged) texts

@@ -1,5 +1,5 @@
 -- Lemmas on specs/Tagging.antt: what is left where records have got their tags.
-use Rattle.std.proofs.Common.{◌≡◌, ◌≢◌, ◌⊎◌, ◌↔◌, inl, inr, ℕ, Bool, true, false, List, [], ◌++◌, map, Option, Some, None, append_assoc}
+use Rattle.std.proofs.Common.{◌≡◌, ◌≢◌, ◌⊎◌, ◌↔◌, inl, inr, ℕ, Bool, true, false, List, [], ◌∷◌, ◌++◌, map, Option, Some, None, append_assoc}
 use Rattle.std.proofs.Common.{option_map, Ok, refl, sym, ◌∙◌, ap, subst}
 use Rattle.std.specs.List.{AllByRecursion, flat_map}
 use Rattle.ferry_base.specs.Limits.{zero_id}
@@ -11,6 +11,7 @@ use Rattle.ferry_check.specs.Report.{ids_of, ids_used, is_among}
 use Rattle.ferry_disk.specs.Files.{Files}
 use Rattle.ferry_log.specs.State.{LogState}
 use Rattle.ferry_mac.specs.declared.keys.Keys.{Keys}
+use Rattle.ferry_manifest.specs.Manifest.Text.{ManifestText}
 use Rattle.ferry_manifest.specs.Record.Text.{ArchiveText, archive_of, as_tagged}
 use Rattle.ferry_manifest.specs.declared.manifest.ArchiveRef.{ArchiveRef}
 use Rattle.ferry_piece.proofs.AmongLemmas.{among_all}
@@ -32,9 +33,16 @@ use Rattle.ferry_refs.proofs.RenamedLemmas.{names_kept, old_reads, tagged_name, 
 use Rattle.ferry_refs.proofs.SparedLemmas.{all_spared, rest_spared}
 use Rattle.ferry_refs.proofs.WholeLemmas.{all_among, all_parted, chunks_left, read_of, whole_left, wholes_left}
 use Rattle.ferry_refs.specs.Deleting.{with_deleted}
-use Rattle.ferry_refs.specs.Tagging.{IsFreed, IsOfText, IsLiveText, IsUntagged, KeepsArchives, ShowsRenewed, ShowsTagged, next_tagged, renewed_entry, with_puts}
+use Rattle.ferry_refs.specs.Tagging.{IsFreed, IsOfText, IsLiveText, IsUntagged, KeepsArchives, OldRecord, ShowsRenewed, ShowsTagged, next_tagged, renewed_entry}
+use Rattle.ferry_refs.specs.Tagging.{tagged_manifest, with_puts}
 
 -- ---- what is left
+
+-- where there are records without a tag, the manifest has new ones
+some_tagged : (keys : Keys) (manifest : ManifestText) (olds : List OldRecord) (texts : List (List ℕ)) (time : List ℕ) → olds ≢ []
+    → tagged_manifest keys manifest olds texts time ≡ next_tagged keys manifest olds texts time
+some_tagged keys manifest [] texts time some = absurd (some refl)
+some_tagged keys manifest (old ∷ olds) texts time some = refl
 
 module _ (secret : Secret) (start image : Files) (repo : RepoState) (time : List ℕ) (committed : List LogEntry)
     (opens : OpensFilesTo start secret repo) (shown : Shows start (Some committed)) where
@@ -46,7 +54,7 @@ module _ (secret : Secret) (start image : Files) (repo : RepoState) (time : List
   start_whole name whole has = whole_start secret start image repo [] time committed opens shown name whole has
 
   -- where a stop came before it
-  pub standing_left : ShowsStanding (found (Some committed) start) image → KeepsArchives secret start repo false image
+  pub standing_left : ShowsStanding (found (Some committed) start) image → KeepsArchives secret start repo time false image
   standing_left shows =
       let live = stands_live secret image repo (found (Some committed) start) shows (opened_unlocks start secret repo opens)
       (record { entries = committed; is = refl; holds = opened_manifest start secret repo committed opens shown }) in
@@ -60,7 +68,11 @@ module _ (secret : Secret) (start image : Files) (repo : RepoState) (time : List
         opens = live.opens;
         config = shows.1;
         names = λ name. refl;
+        olds = [];
+        are_tagged = refl;
         texts = [];
+        renewals = tt;
+        manifest = refl;
         wholes = λ scope apart all within name whole has.
             let is = start_whole name whole has in
             record {
@@ -327,7 +339,7 @@ module _ (secret : Secret) (start image : Files) (repo : RepoState) (time : List
                 let no : false ≡ true = sym u.untagged ∙ tagged in
                 cc
 
-    pub tagged_left : KeepsArchives secret start repo true image
+    pub tagged_left : KeepsArchives secret start repo time true image
     tagged_left =
         let live = stands_live secret image next (with_deleted (with_puts (found (Some committed) start) shows.puts) shows.ids shows.blob) shows.shows
         (opened_unlocks start secret repo opens) shows.manifest in
@@ -337,7 +349,11 @@ module _ (secret : Secret) (start image : Files) (repo : RepoState) (time : List
           opens = live.opens;
           config = shows.shows.1;
           names = names_kept start repo shows.olds shows.texts time shows.are_old;
+          olds = shows.olds;
+          are_tagged = shows.are_old;
           texts = shows.texts;
+          renewals = shows.renewals;
+          manifest = sym (some_tagged repo.keys repo.manifest shows.olds shows.texts time shows.some);
           wholes = λ scope apart all within name whole has.
               let is = start_whole name whole has in
               record {
@@ -362,6 +378,6 @@ module _ (secret : Secret) (start image : Files) (repo : RepoState) (time : List
         }
 
   pub renewed_left : ShowsRenewed start repo time (found (Some committed) start) image
-      → (tagged : Bool) × KeepsArchives secret start repo tagged image
+      → (tagged : Bool) × KeepsArchives secret start repo time tagged image
   renewed_left (inl shows) = (false, standing_left shows)
   renewed_left (inr shows) = (true, tagged_left shows)

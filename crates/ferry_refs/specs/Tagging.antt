@@ -118,6 +118,16 @@ ids_under keys texts = map (content_id keys) texts
 abbrev pub next_tagged : Keys → ManifestText → List OldRecord → List (List ℕ) → List ℕ → ManifestText
 next_tagged keys manifest olds texts time = written_at (renewed manifest (renewed_entries (archives_in olds) (ids_under keys texts))) time
 
+-- the same where there are such archives, and else the manifest as it is
+abbrev pub tagged_manifest : Keys → ManifestText → List OldRecord → List (List ℕ) → List ℕ → ManifestText
+tagged_manifest keys manifest [] texts time = manifest
+tagged_manifest keys manifest (old ∷ olds) texts time = next_tagged keys manifest (old ∷ olds) texts time
+
+-- These are the records that have got a tag: all that had none, or none yet.
+abbrev pub AreTagged : Files → RepoState → Bool → List OldRecord → Type 0
+AreTagged files repo true olds = AreOld files repo repo.manifest.archives olds
+AreTagged files repo false olds = olds ≡ []
+
 -- ---- records that nothing uses any more
 
 -- the ids that an archive goes on using when its record has got a tag: of an untagged record not its own
@@ -170,10 +180,12 @@ pub record BringsTexts (keys : Keys) (texts : List (List ℕ)) (written written_
       → (live_in id (entries_of written) ≡ Some blob) ⊎ IsOfText keys texts id blob
   pub each : AllByRecursion (λ (text : List ℕ). content_id keys text ≢ zero_id → IsLiveText keys (entries_of written_now) text) texts
 
--- Files show that the records without a tag have got one, each archive its own, and that those are deleted that nothing uses any more.
+-- Files show that the records without a tag, of which there are some, have got one, each archive its own, and that those are deleted that nothing uses any
+-- more.
 pub record ShowsTagged (files : Files) (repo : RepoState) (time : List ℕ) (written : Written) (image : Files) : Type 0 where
   pub olds : List OldRecord
   pub are_old : AreOld files repo repo.manifest.archives olds
+  pub some : olds ≢ []
   pub texts : List (List ℕ)
   pub renewals : AreRenewals repo.keys olds texts
   pub puts : List LogEntry
@@ -194,11 +206,12 @@ abbrev pub TagsSound : List ℕ → Store → History → History → Type 0
 TagsSound time store before now = (counts : Bool) (fits : StoreFits counts store before)
     → Moments (IsSound (ShowsRenewed (files_now before) (repo_view store.repo) time fits.written) counts) before now
 
--- So many records have got their tags, and a manifest with them is committed, where a repository was read from these files.
+-- So many records have got their tags, at least one, and a manifest with them is committed, where a repository was read from these files.
 pub record HasTagged (counts : Bool) (time : List ℕ) (files : Files) (repo : RepoState) (written : Written) (store_now : Store) (count : ℕ) (now : History)
     : Type 0 where
   pub olds : List OldRecord
   pub are_old : AreOld files repo repo.manifest.archives olds
+  pub some : olds ≢ []
   pub count_is : count ≡ length olds
   pub texts : List (List ℕ)
   pub renewals : AreRenewals repo.keys olds texts
@@ -232,14 +245,19 @@ KeepsNamesAndTimes before after = (name : List ℕ) → option_map (λ (a : Arch
     ≡ option_map (λ (a : ArchiveRef). a.time) (archive_named name before.archives)
 
 -- Files open under a secret, with the settings that these had, and the same names. Where their records have been tagged none is untagged, and else the ones
--- that were. Each archive that was whole is whole and says the same, where no contents collide among the new records and what was live. The chunks are those
--- of before, but for old records that nothing uses any more, and the new records.
-pub record KeepsArchives (secret : Secret) (start : Files) (before : RepoState) (tagged : Bool) (image : Files) : Type 0 where
+-- that were. The manifest is that of before, or has the new record of each archive whose record had no tag, and is written at a time. Each archive that was
+-- whole is whole and says the same, where no contents collide among the new records and what was live. The chunks are those of before, but for old records
+-- that nothing uses any more, and the new records.
+pub record KeepsArchives (secret : Secret) (start : Files) (before : RepoState) (time : List ℕ) (tagged : Bool) (image : Files) : Type 0 where
   pub repo : RepoState
   pub opens : OpensFilesTo image secret repo
   pub config : image.config ≡ start.config
   pub names : KeepsNamesAndTimes before.manifest repo.manifest
+  pub olds : List OldRecord
+  pub are_tagged : AreTagged start before tagged olds
   pub texts : List (List ℕ)
+  pub renewals : AreRenewals before.keys olds texts
+  pub manifest : repo.manifest ≡ tagged_manifest before.keys before.manifest olds texts time
   pub wholes : (scope : List (List ℕ)) → NoCollision before.keys scope → AllByRecursion (IsAmong scope) texts → HoldsWithin scope start before
       → (name : List ℕ) (whole : WholeArchive) → HasWhole start secret name whole → HasWhole image secret name whole
   pub untagged : (scope : List (List ℕ)) → NoCollision before.keys scope → AllByRecursion (IsAmong scope) texts → HoldsWithin scope start before

@@ -46,11 +46,11 @@ pub fn delete_laws()
 pub fn tag_laws()
     ensures kept { (secret : Secret) (start image : Files) (repo : RepoState) (time : List ℕ) (committed : List LogEntry)
         → OpensFilesTo start secret repo → Shows start (Some committed)
-        → ShowsRenewed start repo time (found (Some committed) start) image → (tagged : Bool) × KeepsArchives secret start repo tagged image }
+        → ShowsRenewed start repo time (found (Some committed) start) image → (tagged : Bool) × KeepsArchives secret start repo time tagged image }
     // Behind the tagging no record is without a tag.
     ensures tagged { (secret : Secret) (start image : Files) (repo : RepoState) (time : List ℕ) (committed : List LogEntry)
         → OpensFilesTo start secret repo → Shows start (Some committed)
-        → ShowsTagged start repo time (found (Some committed) start) image → KeepsArchives secret start repo true image }
+        → ShowsTagged start repo time (found (Some committed) start) image → KeepsArchives secret start repo time true image }
     // The archives without a tag are as many as a check of the repository counts.
     ensures count { (files : Files) (repo : RepoState) (olds : List OldRecord) (reads : List ArchiveRead) → AreOld files repo repo.manifest.archives olds
         → AreRead files repo repo.manifest.archives reads → length olds ≡ length (untagged reads) }

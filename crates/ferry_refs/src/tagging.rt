@@ -112,6 +112,7 @@ fn write_tagged<D: Depot, E: Entropy>(
     requires fits { IfSome (D.told depot.old) (λ t. StoreFits false store.old t.history) }
     requires packable { IsPackable (accepted_in store.old) }
     requires settled { IsSettled store.old }
+    requires some { 0 < length old.now.untagged.items }
     requires chunks { AllByRecursion (IsChunk (repo_view store.old.repo).log) old.now.freed.items }
     requires named { AllByRecursion (λ u. IsNamedIn (repo_view store.old.repo).manifest u.named) old.now.untagged.items }
     requires archives { AllByRecursion (λ u. IsPackableArchive (archive_view u.archive)) old.now.untagged.items }

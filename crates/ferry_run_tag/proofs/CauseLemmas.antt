@@ -82,7 +82,7 @@ telling_refuses asked start now repo Stores.TooLarge refused = absurd refused
 telling_refuses asked start now repo Stores.Entropy refused = absurd refused
 
 pub untold_refused : (asked : Tagging) (count : ℕ) (a b c : Option Told) (refusal : StoreRefusal)
-    → Between a b (λ h g. AllDone h g × GetsTags asked.secret count h g) → RefusesTelling refusal
+    → Between a b (λ h g. AllDone h g × GetsTags asked.secret asked.timestamp count h g) → RefusesTelling refusal
     → RefusesChange asked.secret (RefusesTags asked.timestamp c) a (target_fault refusal)
 untold_refused asked count None b c refusal tagged refused = tt
 untold_refused asked count (Some t) b c refusal tagged refused = λ begun.

@@ -5,7 +5,7 @@ use Rattle.ferry_piece.specs.declared.fault.CarryFault.TheVariants as Carry
 use Rattle.ferry_status.proofs.OpenedLemmas.{shut_here}
 use Rattle.ferry_run_tag.proofs.CauseLemmas.{tags_done}
 use Rattle.ferry_run_tag.proofs.ShowLemmas.{TagEach, Tagging, each_opened, some_left}
-use Rattle.ferry_run_tag.specs.Tag.{TagsArchives, RefusesTags}
+use Rattle.ferry_run_tag.specs.Tag.{LeavesArchives, RefusesTags, TagsArchives}
 use Rattle.ferry_status.specs.Devices.{Devices, IsRefusedBy}
 use Rattle.ferry_status.specs.declared.status.Status.TheVariants as Statuses
 use Rattle.ferry_status.specs.Opened.{ChangesLeave, RefusesChange}
@@ -13,7 +13,6 @@ use Rattle.ferry_status.specs.Status.{carry_status}
 use Rattle.ferry_store.proofs.OpenLemmas.{each_here}
 use Rattle.ferry_store.proofs.StepLemmas.{here_each}
 use Rattle.ferry_store.specs.declared.fault.StoreRefusal.TheVariants as Stores
-use Rattle.ferry_refs.specs.Tagging.{KeepsArchives}
 
 memory_refused : (asked : Tagging) (before now : Option Told) → RefusesChange asked.secret (RefusesTags asked.timestamp now) before Carry.Memory
 memory_refused asked None now = tt
@@ -33,7 +32,8 @@ tags_nothing asked all =
         output = refl;
         refused = inr (memory_is asked told told);
         ended = λ done. absurd (let no : ⊥ = cc in no);
-        left = here_each (ChangesLeave asked.secret (KeepsArchives asked.secret)) told (λ h. some_left asked h h (each_opened asked h h (each_here h)).0);
+        left = here_each (ChangesLeave asked.secret (LeavesArchives asked.secret asked.timestamp)) told
+        (λ h. some_left asked h h (each_opened asked h h (each_here h)).0);
         kept = λ work. absurd (let no : ⊥ = cc in no);
         shut = shut_here asked.secret told;
         each = here_each (TagEach asked) told (λ h. (each_opened asked h h (each_here h)).0);

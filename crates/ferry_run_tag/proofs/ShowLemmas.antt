@@ -1,6 +1,7 @@
 -- Lemmas on specs/Tag.antt: what each stop leaves while archives are tagged, and while that is told.
 use Rattle.std.proofs.Common.{◌≡◌, inl, inr, ℕ, suc, Bool, true, false, List, [], Some, map, refl, sym, ◌∙◌, ap, subst, Option}
 use Rattle.std.proofs.lemmas.List.{append-nil}
+use Rattle.ferry_run_tag.specs.Tag.{LeavesArchives}
 use Rattle.ferry_disk.proofs.ImageLemmas.{plain_read}
 use Rattle.ferry_disk.specs.Act.{TellOf, History, files_now}
 use Rattle.ferry_disk.specs.Files.{Files}
@@ -13,7 +14,7 @@ use Rattle.ferry_refs.proofs.SameLemmas.{LieIn}
 use Rattle.ferry_refs.proofs.TagSameLemmas.{freed_same, old_same}
 use Rattle.ferry_refs.proofs.TaggedLemmas.{renewed_left, standing_left}
 use Rattle.ferry_refs.specs.Deleting.{LeavesCommitted, time_of}
-use Rattle.ferry_refs.specs.Tagging.{KeepsArchives, ShowsRenewed, ShowsTagged, TagsSound}
+use Rattle.ferry_refs.specs.Tagging.{ShowsRenewed, ShowsTagged, TagsSound}
 use Rattle.ferry_repo.proofs.LawLemmas.{one_repo}
 use Rattle.ferry_repo.specs.Opening.{OpensFilesTo, RepoState, repo_view}
 use Rattle.ferry_repo.specs.declared.secret.Secret.{Secret}
@@ -47,11 +48,11 @@ tagging secret timestamp = record { secret = secret; timestamp = timestamp }
 
 -- Files have each archive that a repository had which opened from these, with the tags that they had, or with all.
 abbrev pub KeepsEach : Tagging → Files → RepoState → Files → Type 0
-KeepsEach asked start before image = (tagged : Bool) × KeepsArchives asked.secret start before tagged image
+KeepsEach asked start before image = (tagged : Bool) × LeavesArchives asked.secret asked.timestamp start before tagged image
 
 -- At each moment of the command.
 abbrev pub TagEach : Tagging → History → History → Type 0
-TagEach asked = ChangesEach asked.secret (KeepsArchives asked.secret)
+TagEach asked = ChangesEach asked.secret (LeavesArchives asked.secret asked.timestamp)
 
 -- what is shown of a store that is written, where its files are read
 pub standing_now : (counts : Bool) (store : Store) (written : Written) (h : History) → IsUnderWay counts store.session store.counter written h
@@ -93,6 +94,7 @@ module _ (asked : Tagging) (store : Store) (h g : History) (opens : OpensFilesTo
         (record {
           olds = shows.olds;
           are_old = old_same (files_now g) (files_now h) repo lie_before repo.manifest.archives shows.olds shows.are_old;
+          some = shows.some;
           texts = shows.texts;
           renewals = shows.renewals;
           puts = shows.puts;
@@ -184,17 +186,18 @@ each_told asked line h g i each done some is = (
 -- At each moment of a run that had made no act each stop leaves all archives.
 abbrev pub LeavesEach : Tagging → History → History → Type 0
 LeavesEach asked h i = h.acts ≡ [] → (repo : RepoState) → OpensFilesTo (files_now h) asked.secret repo
-    → Moments (EachStop (KeepsArchives asked.secret (files_now h) repo false)) h i
+    → Moments (EachStop (LeavesArchives asked.secret asked.timestamp (files_now h) repo false)) h i
 
 leaves_by : (asked : Tagging) (store : Store) (h g i : History) (opens : OpensFilesTo (files_now h) asked.secret (repo_view store.repo))
     → (o : OpensFound false store h g) → OpenEach h g → h.acts ≡ [] → AllDone h g
     → Moments (IsSound (ShowsStanding o.fits.written) false) g i
-    → Moments (EachStop (KeepsArchives asked.secret (files_now h) (repo_view store.repo) false)) h i
+    → Moments (EachStop (LeavesArchives asked.secret asked.timestamp (files_now h) (repo_view store.repo) false)) h i
 leaves_by asked store h g i opens o each begun done sound =
     let repo = repo_view store.repo in
     let time = time_of asked.timestamp repo.manifest in
-    let Leaves : History → Type 0 = EachStop (KeepsArchives asked.secret (files_now h) repo false) in
-    let keeps : (image : Files) → ShowsStanding (found (Some o.committed) (files_now h)) image → KeepsArchives asked.secret (files_now h) repo false image =
+    let Leaves : History → Type 0 = EachStop (LeavesArchives asked.secret asked.timestamp (files_now h) repo false) in
+    let keeps : (image : Files) → ShowsStanding (found (Some o.committed) (files_now h)) image →
+    LeavesArchives asked.secret asked.timestamp (files_now h) repo false image =
     λ image shows. standing_left asked.secret (files_now h) image repo time o.committed opens o.shown shows in
     moments_then Leaves h g i
     (moments_map (EachStop (ShowsStanding (found (Some o.committed) (files_now h)))) Leaves h g (λ k stops image left. keeps image (stops image left))
@@ -206,7 +209,7 @@ pub leaves_each : (asked : Tagging) (store : Store) (h g i : History) → OpensF
     → AllDone h g → OpenFits store h g → LeavesCommitted store g i → LeavesEach asked h i
 leaves_each asked store h g i opens each done fits leaves begun other other_opens =
     let o = fits false begun (λ c. absurd (let no : ⊥ = cc in no)) in
-    subst (λ (r : RepoState). Moments (EachStop (KeepsArchives asked.secret (files_now h) r false)) h i)
+    subst (λ (r : RepoState). Moments (EachStop (LeavesArchives asked.secret asked.timestamp (files_now h) r false)) h i)
     (one_repo (files_now h) asked.secret (repo_view store.repo) other opens other_opens)
     (leaves_by asked store h g i opens o each begun done (leaves false o.fits))
 
@@ -217,13 +220,14 @@ each_opened asked h g each =
     let reads = opens.opens.unlocks.reads in
     let entries = map (λ (e : Located). e.entry) reads.log in
     let shown : Shows (files_now h) (Some entries) = (suc repo.log.transaction, log_shown (files_now h) repo.log.transaction reads.log reads.is) in
-    moments_map (EachStop (ShowsStanding (found (Some entries) (files_now h)))) (EachStop (KeepsArchives asked.secret (files_now h) repo false)) h g
+    moments_map (EachStop (ShowsStanding (found (Some entries) (files_now h))))
+    (EachStop (LeavesArchives asked.secret asked.timestamp (files_now h) repo false)) h g
     (λ k stops image left.
     standing_left asked.secret (files_now h) image repo (time_of asked.timestamp repo.manifest) entries opens shown (stops image left))
     (each.0 entries begun shown) in (
       (
         λ begun repo opens.
-            moments_map (EachStop (KeepsArchives asked.secret (files_now h) repo false)) (EachStop (KeepsEach asked (files_now h) repo)) h g
+            moments_map (EachStop (LeavesArchives asked.secret asked.timestamp (files_now h) repo false)) (EachStop (KeepsEach asked (files_now h) repo)) h g
             (λ k stops image left. (false, stops image left)) (leaves begun repo opens),
         each.1,
       ),
@@ -232,15 +236,15 @@ each_opened asked h g each =
 
 -- ---- what is read then
 
-pub some_left : (asked : Tagging) (h g : History) → TagEach asked h g → ChangesLeave asked.secret (KeepsArchives asked.secret) h g
+pub some_left : (asked : Tagging) (h g : History) → TagEach asked h g → ChangesLeave asked.secret (LeavesArchives asked.secret asked.timestamp) h g
 some_left asked h g each begun repo opens =
     let moments = each.0 begun repo opens in
     moments.last (files_now g) (now_left (EachStop (KeepsEach asked (files_now h) repo)) h g begun each.1.1.1 moments)
 
 pub all_left : (asked : Tagging) (h g : History) → TagEach asked h g → LeavesEach asked h g → TellsNothing h g
-    → LeavesAll asked.secret (KeepsArchives asked.secret) h g
+    → LeavesAll asked.secret (LeavesArchives asked.secret asked.timestamp) h g
 all_left asked h g each leaves untold begun repo opens =
     let moments = leaves begun repo opens in (
-      moments.last (files_now g) (now_left (EachStop (KeepsArchives asked.secret (files_now h) repo false)) h g begun each.1.1.1 moments),
+      moments.last (files_now g) (now_left (EachStop (LeavesArchives asked.secret asked.timestamp (files_now h) repo false)) h g begun each.1.1.1 moments),
       untold,
     )

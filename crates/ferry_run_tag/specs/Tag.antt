@@ -1,5 +1,5 @@
 -- What the command that tags the archives of a repository leaves in its target, whatever a stop of the machine does, and what it says where it tags none.
-use Rattle.std.specs.Prelude.{◌≡◌, ◌++◌, ℕ, true, List, [], ◌∷◌, codes, decimal, length, Option, IfSome}
+use Rattle.std.specs.Prelude.{◌≡◌, ◌++◌, ℕ, Bool, true, List, [], ◌∷◌, codes, decimal, length, Option, IfSome}
 use Rattle.ferry_blob.specs.declared.fault.BlobFault.{BlobFault}
 use Rattle.ferry_check.specs.Report.{ArchiveRead, AreRead, untagged}
 use Rattle.ferry_disk.specs.Act.{History, files_now}
@@ -20,20 +20,27 @@ use Rattle.ferry_status.specs.declared.status.Status.TheVariants as Statuses
 use Rattle.ferry_status.specs.Opened.{ChangesArchives, IsDoneUnless, OpensNumbered}
 use Rattle.ferry_stops.specs.Tells.{lines_of}
 use Rattle.ferry_store.specs.Causes.{BreaksLive, HasFewBlocks, HasLastSegment}
+use Rattle.ferry_write.specs.Front.{LeavesSegments}
 
 -- the line that is told of so many records that got a tag
 abbrev pub tagged_line : ℕ → List ℕ
 tagged_line count = codes "tagged " ++ (decimal count ++ (10 ∷ []))
 
+-- Files have each archive that a repository had which opened from these, with the tags that they had, or with all; the time of the manifest is given, or not.
+abbrev pub LeavesArchives : Secret → Option (List ℕ) → Files → RepoState → Bool → Files → Type 0
+LeavesArchives secret timestamp start before tagged image = KeepsArchives secret start before (time_of timestamp before.manifest) tagged image
+
 -- ---- the end
 
--- The target's files opened, and now they open with each archive that was there, and each record has a tag; how many had none is told.
-pub record HasTagged (secret : Secret) (before now : History) : Type 0 where
+-- The target's files opened, and now they open with each archive that was there, and each record has a tag; how many had none is told. Where none had none,
+-- no segment came.
+pub record HasTagged (secret : Secret) (timestamp : Option (List ℕ)) (before now : History) : Type 0 where
   pub repo : RepoState
   pub opens : OpensFilesTo (files_now before) secret repo
-  pub left : KeepsArchives secret (files_now before) repo true (files_now now)
+  pub left : LeavesArchives secret timestamp (files_now before) repo true (files_now now)
   pub reads : List ArchiveRead
   pub are_read : AreRead (files_now before) repo repo.manifest.archives reads
+  pub idle : untagged reads ≡ [] → LeavesSegments (files_now before) (files_now now)
   pub told : lines_of now.acts ≡ lines_of before.acts ++ tagged_line (length (untagged reads)) ∷ []
 
 -- ---- where it is refused, and where it is done
@@ -75,5 +82,6 @@ TagsDone secret timestamp before now status = IfSome before (λ b. IfSome now (�
 -- open. Each archive that was whole is whole and says the same, where no contents collide among the new records and what was live, under the same names with
 -- the same times; all have the tags that they had, or all have one.
 pub record TagsArchives (secret : Secret) (timestamp : Option (List ℕ)) (before : Devices) (status : Status) (after : Devices) : Type 0 where
-  pub changes : ChangesArchives secret (KeepsArchives secret) (HasTagged secret) (RefusesTags timestamp) before status after
+  pub changes : ChangesArchives secret (LeavesArchives secret timestamp) (HasTagged secret timestamp) (RefusesTags timestamp)
+      before status after
   pub completes : TagsDone secret timestamp before.target.told after.target.told status

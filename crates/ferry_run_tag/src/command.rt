@@ -10,7 +10,7 @@ ghost use Rattle.ferry_disk.specs.Moments.{Between};
 ghost use Rattle.ferry_store.specs.Fault.{source_failed};
 ghost use Rattle.ferry_store.specs.State.{Did, IsStep};
 ghost use Rattle.ferry_store.specs.Store.{OpenLeaves};
-ghost use Rattle.ferry_run_tag.specs.Tag.{HasTagged, RefusesTags, TagsDone};
+ghost use Rattle.ferry_run_tag.specs.Tag.{HasTagged, LeavesArchives, RefusesTags, TagsDone};
 ghost use Rattle.ferry_run_tag.specs.Tag.{tagged_line};
 ghost use Rattle.ferry_run_tag.specs.Steps.{GetsTags};
 ghost use Rattle.ferry_status.specs.Status.{carry_status, entropy_failed, is_of_work, output_failed, source_failed as of_source, target_failed};
@@ -18,7 +18,6 @@ ghost use Rattle.ferry_status.specs.Telling.{RefusesTelling};
 ghost use Rattle.ferry_status.specs.declared.status.Status.TheVariants as TheStatus;
 ghost use Rattle.ferry_status.specs.Opened.{ChangesEach, ChangesLeave, LeavesAll, RefusesChange};
 ghost use Rattle.ferry_status.specs.Devices.{IsRefusedBy};
-ghost use Rattle.ferry_refs.specs.Tagging.{KeepsArchives};
 
 use ferry_base::Bytes;
 use ferry_disk::{Depot, Entropy};
@@ -44,13 +43,13 @@ pub fn tag_archives<D: Depot, E: Entropy>(
     entropy: &mut E,
 ) -> Status
     requires begun { IfSome (D.told target.old) (λ t. t.history.acts ≡ []) }
-    ensures each { Between (D.told target.old) (D.told target.new) (ChangesEach secret.now (KeepsArchives secret.now)) }
+    ensures each { Between (D.told target.old) (D.told target.new) (ChangesEach secret.now (LeavesArchives secret.now timestamp)) }
     ensures ended { result ≡ TheStatus.Done → Between (D.told target.old) (D.told target.new) (λ h g.
-        h.acts ≡ [] → HasTagged secret.now h g) }
-    ensures left { Between (D.told target.old) (D.told target.new) (ChangesLeave secret.now (KeepsArchives secret.now)) }
+        h.acts ≡ [] → HasTagged secret.now timestamp h g) }
+    ensures left { Between (D.told target.old) (D.told target.new) (ChangesLeave secret.now (LeavesArchives secret.now timestamp)) }
     // Where the target doesn't open, nothing is done.
     ensures shut { Between (D.told target.old) (D.told target.new) (OpenLeaves secret.now) }
-    ensures kept { is_of_work result ≡ true → Between (D.told target.old) (D.told target.new) (LeavesAll secret.now (KeepsArchives secret.now)) }
+    ensures kept { is_of_work result ≡ true → Between (D.told target.old) (D.told target.new) (LeavesAll secret.now (LeavesArchives secret.now timestamp)) }
     ensures refused { (result ≡ TheStatus.Done) ⊎ IsRefusedBy carry_status
         (RefusesChange secret.now (RefusesTags timestamp (D.told target.new)) (D.told target.old)) result }
     ensures completes { TagsDone secret.now timestamp (D.told target.old) (D.told target.new) result }
@@ -77,11 +76,11 @@ fn tag_and_tell<D: Depot, E: Entropy>(
     entropy: &mut E,
 ) -> Result<(), CarryFault>
     requires begun { IfSome (D.told target.old) (λ t. t.history.acts ≡ []) }
-    ensures works { Works (ChangesEach secret.now (KeepsArchives secret.now)) (λ _ h g. h.acts ≡ [] → HasTagged secret.now h g)
+    ensures works { Works (ChangesEach secret.now (LeavesArchives secret.now timestamp.now)) (λ _ h g. h.acts ≡ [] → HasTagged secret.now timestamp.now h g)
         (D.told target.old) (D.told target.new) (D.faults target.old) (D.faults target.new) result }
     ensures refused { IfErr result (RefusesChange secret.now (RefusesTags timestamp.now (D.told target.new)) (D.told target.old)) }
     ensures kept { IfErr result (λ fault. IsOfWork fault
-        → Between (D.told target.old) (D.told target.new) (LeavesAll secret.now (KeepsArchives secret.now))) }
+        → Between (D.told target.old) (D.told target.new) (LeavesAll secret.now (LeavesArchives secret.now timestamp.now))) }
     ensures shut { Between (D.told target.old) (D.told target.new) (OpenLeaves secret.now) }
     ensures shelf { IfErr result (λ fault. shelf_failed fault ≡ false) }
     ensures entropy { HasCause random_failed (E.faults entropy.old) (E.faults entropy.new) result }
@@ -101,11 +100,11 @@ fn tag_target<D: Depot, E: Entropy>(
     entropy: &mut E,
 ) -> Result<u64, CarryFault>
     requires begun { IfSome (D.told target.old) (λ t. t.history.acts ≡ []) }
-    ensures works { Works (ChangesEach secret.now (KeepsArchives secret.now)) (GetsTags secret.now)
+    ensures works { Works (ChangesEach secret.now (LeavesArchives secret.now timestamp.now)) (GetsTags secret.now timestamp.now)
         (D.told target.old) (D.told target.new) (D.faults target.old) (D.faults target.new) result }
     ensures refused { IfErr result (RefusesChange secret.now (RefusesTags timestamp.now (D.told target.new)) (D.told target.old)) }
     ensures kept { IfErr result (λ fault. IsOfWork fault
-        → Between (D.told target.old) (D.told target.new) (LeavesAll secret.now (KeepsArchives secret.now))) }
+        → Between (D.told target.old) (D.told target.new) (LeavesAll secret.now (LeavesArchives secret.now timestamp.now))) }
     ensures shut { Between (D.told target.old) (D.told target.new) (OpenLeaves secret.now) }
     ensures shelf { IfErr result (λ fault. shelf_failed fault ≡ false) }
     ensures entropy { HasCause random_failed (E.faults entropy.old) (E.faults entropy.new) result }

@@ -21,8 +21,8 @@ use Rattle.ferry_piece.specs.declared.fault.CarryFault.TheVariants as Carry
 use Rattle.ferry_refs.proofs.AddLemmas.{memory_one_of}
 use Rattle.ferry_refs.proofs.DropLemmas.{untold_then}
 use Rattle.ferry_refs.proofs.TagCauseLemmas.{adding_refused, freeing_refused, memory_is}
-use Rattle.ferry_refs.proofs.TagLemmas.{accepted_is, chunks_kept, named_keys, named_unspent, renewals_length, unwritten_keeps, works_unadded, works_unnamed}
-use Rattle.ferry_refs.proofs.TagLemmas.{works_unwritten, works_written}
+use Rattle.ferry_refs.proofs.TagLemmas.{accepted_is, chunks_kept, named_keys, named_unspent, renewals_length, some_olds, unwritten_keeps, works_unadded}
+use Rattle.ferry_refs.proofs.TagLemmas.{works_unnamed, works_unwritten, works_written}
 use Rattle.ferry_refs.proofs.tagging.write_tagged.Goals as goal
 use Rattle.ferry_refs.specs.Deleting.{LeavesCommitted}
 use Rattle.ferry_refs.specs.TagSteps.{AddsTexts, Frees, FreesSound, IsNamedIn, RefusesFreeing, RefusesOneOf, RefusesWriting, SoundTagged, TagsWith, olds_view}
@@ -176,7 +176,8 @@ returns-in_err-free_and_commit-clause-works g c =
     err_is c.from_residual-in_err-free_and_commit.result (target_fault refusal)
     (λ (r : Result (Unit {0}) CarryFault). Works (SoundTagged time olds freed store) (λ _. TagsWith time olds freed store last) a d n k r)
     c.from_residual-in_err-free_and_commit.ensures.1
-    (works_unwritten time olds some.0 freed store added named last c.in_ok-ids.ensures.repo c.rename_archives.ensures.rest renewals accepted
+    (works_unwritten time olds some.0 freed store added named last c.in_ok-ids.ensures.repo c.rename_archives.ensures.rest
+    (some_olds untagged c.requires.some) renewals accepted
     {U = Unit {0}} {V = Unit {0}} a b d n m k c.in_ok-ids.ids refusal c.free_and_commit.ensures.untold some.1.0 frees)
 
 pub returns-in_err-free_and_commit-clause-untold : goal.returns-in_err-free_and_commit-clause-untold
@@ -201,7 +202,8 @@ returns-in_err-free_and_commit-clause-refused g c =
     let renewals = subst (λ (us : List Untagged). AreRenewals repo.keys (olds_view us) some.0) c.deref.ensures.value some.1.1.0 in
     let accepted = accepted_is store added named untagged c.deref-2.result.now some.0 c.deref-3.result.now c.requires.settled c.in_ok-ids.ensures.accepted
     c.deref-2.ensures.value (c.deref-3.ensures.value ∙ some.1.1.1) c.in_ok-rename_archives.ensures.renamed in
-    let same = named_keys time olds some.0 freed store added named last c.in_ok-ids.ensures.repo c.rename_archives.ensures.rest renewals accepted in
+    let same = named_keys time olds some.0 freed store added named last c.in_ok-ids.ensures.repo c.rename_archives.ensures.rest
+    (some_olds untagged c.requires.some) renewals accepted in
     let refusal = c.in_err-free_and_commit.field-0.0 in
     let refused = subst (λ (ks : Keys). RefusesFreeing ks (next_tagged repo.keys repo.manifest olds some.0 time) refusal) same
     (subst (λ (t : ManifestText). RefusesFreeing (repo_view named.repo).keys (written_at t time) refusal) accepted
@@ -235,7 +237,8 @@ returns-in_err-free_and_commit-clause-keeps g c =
     err_is c.from_residual-in_err-free_and_commit.result (target_fault refusal)
     (λ (r : Result (Unit {0}) CarryFault). IfErr r (λ (f : CarryFault). IsOfWork f → Between a d (LeavesCommitted store)))
     c.from_residual-in_err-free_and_commit.ensures.1
-    (λ work. unwritten_keeps c.args.time.now olds some.0 freed store added named last c.in_ok-ids.ensures.repo c.rename_archives.ensures.rest renewals accepted
+    (λ work. unwritten_keeps c.args.time.now olds some.0 freed store added named last c.in_ok-ids.ensures.repo c.rename_archives.ensures.rest
+    (some_olds untagged c.requires.some) renewals accepted
     a b d n m c.in_ok-ids.ids refusal some.1.0 c.in_err-free_and_commit.ensures.keeps work)
 
 pub returns-clause-works : goal.returns-clause-works
@@ -261,7 +264,8 @@ returns-clause-works g c =
     c.deref-2.ensures.value (c.deref-3.ensures.value ∙ some.1.1.1) c.in_ok-rename_archives.ensures.renamed in
     let frees = subst (λ (ids : List (List ℕ)). Did {T = Unit {0}} (FreesSound time ids named) (λ _. Frees ids named last) b d m k (Ok tt))
     c.deref-4.ensures.value c.in_ok-free_and_commit.ensures.did in
-    works_written time olds some.0 freed store added named last c.in_ok-ids.ensures.repo c.rename_archives.ensures.rest renewals accepted
+    works_written time olds some.0 freed store added named last c.in_ok-ids.ensures.repo c.rename_archives.ensures.rest
+    (some_olds untagged c.requires.some) renewals accepted
     {U = Unit {0}} {V = Unit {0}} a b d n m k c.in_ok-ids.ids tt tt c.in_ok-free_and_commit.ensures.manifest c.free_and_commit.ensures.untold some.1.0 frees
 
 pub returns-clause-untold : goal.returns-clause-untold

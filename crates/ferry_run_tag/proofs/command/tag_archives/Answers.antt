@@ -1,11 +1,11 @@
 use Rattle.std.proofs.Common.{inr}
+use Rattle.ferry_run_tag.specs.Tag.{LeavesArchives}
 use Rattle.ferry_disk.proofs.MomentLemmas.{between_map}
 use Rattle.ferry_run_tag.proofs.CauseLemmas.{tags_done}
 use Rattle.ferry_run_tag.proofs.EndLemmas.{tagged_ended}
 use Rattle.ferry_run_tag.proofs.ShowLemmas.{TagEach, some_left, tagging}
 use Rattle.ferry_run_tag.proofs.command.tag_archives.Goals as goal
 use Rattle.ferry_status.specs.Opened.{ChangesLeave}
-use Rattle.ferry_refs.specs.Tagging.{KeepsArchives}
 
 pub returns-in-Ok-clause-ended : goal.returns-in-Ok-clause-ended
 returns-in-Ok-clause-ended g c done =
@@ -16,14 +16,14 @@ pub returns-in-Ok-clause-left : goal.returns-in-Ok-clause-left
 returns-in-Ok-clause-left g c =
     let asked = tagging c.args.secret.now c.args.timestamp in
     between_map (g.D.Shelf.told c.args.target.now) (g.D.Shelf.told c.tag_and_tell.new.target) (TagEach asked)
-    (ChangesLeave asked.secret (KeepsArchives asked.secret)) (some_left asked)
+    (ChangesLeave asked.secret (LeavesArchives asked.secret asked.timestamp)) (some_left asked)
     c.in-Ok.ensures.works.each
 
 pub returns-clause-left : goal.returns-clause-left
 returns-clause-left g c =
     let asked = tagging c.args.secret.now c.args.timestamp in
     between_map (g.D.Shelf.told c.args.target.now) (g.D.Shelf.told c.tag_and_tell.new.target) (TagEach asked)
-    (ChangesLeave asked.secret (KeepsArchives asked.secret)) (some_left asked)
+    (ChangesLeave asked.secret (LeavesArchives asked.secret asked.timestamp)) (some_left asked)
     c.in-Err.ensures.works.each
 
 pub returns-clause-completes : goal.returns-clause-completes

@@ -1,5 +1,6 @@
 use Rattle.std.proofs.Common.{ℕ, List, Option, Result, IfErr, IfSome, subst}
 use Rattle.std.proofs.lemmas.Result.{IfErr-weaker}
+use Rattle.ferry_run_tag.specs.Tag.{LeavesArchives}
 use Rattle.ferry_disk.specs.Device.{told_files}
 use Rattle.ferry_disk.specs.Moments.{Between}
 use Rattle.ferry_piece.proofs.WorkLemmas.{err_is}
@@ -7,7 +8,7 @@ use Rattle.ferry_piece.specs.Fault.{IsOfWork, target_fault}
 use Rattle.ferry_piece.specs.Work.{Works}
 use Rattle.ferry_piece.specs.declared.fault.CarryFault.{CarryFault}
 use Rattle.ferry_refs.specs.Deleting.{time_of}
-use Rattle.ferry_refs.specs.Tagging.{KeepsArchives, RefusesTagging, Tags, TagsSound}
+use Rattle.ferry_refs.specs.Tagging.{RefusesTagging, Tags, TagsSound}
 use Rattle.ferry_repo.specs.Opening.{repo_view}
 use Rattle.ferry_run_tag.proofs.CauseLemmas.{untagged_refused}
 use Rattle.ferry_run_tag.proofs.EndLemmas.{tagged_works, unopened_left, unopened_works, untagged_left}
@@ -28,7 +29,7 @@ returns-in_err-store-clause-works g c =
     let m = g.D.Shelf.faults c.open.new.depot in
     let refusal = c.in_err-store.field-0.0 in
     err_is c.from_residual.result (target_fault refusal)
-    (λ (r : Result ℕ CarryFault). Works (TagEach asked) (GetsTags asked.secret) a b n m r) c.from_residual.ensures.1
+    (λ (r : Result ℕ CarryFault). Works (TagEach asked) (GetsTags asked.secret asked.timestamp) a b n m r) c.from_residual.ensures.1
     (unopened_works asked OpenFits a b n m refusal c.in_err-store.ensures.untold c.in_err-store.ensures.did)
 
 pub returns-in_err-store-clause-kept : goal.returns-in_err-store-clause-kept
@@ -37,7 +38,7 @@ returns-in_err-store-clause-kept g c =
     let a = g.D.Shelf.told c.args.target.now in
     let b = g.D.Shelf.told c.open.new.depot in
     err_is c.from_residual.result (target_fault c.in_err-store.field-0.0)
-    (λ (r : Result ℕ CarryFault). IfErr r (λ (f : CarryFault). IsOfWork f → Between a b (LeavesAll asked.secret (KeepsArchives asked.secret))))
+    (λ (r : Result ℕ CarryFault). IfErr r (λ (f : CarryFault). IsOfWork f → Between a b (LeavesAll asked.secret (LeavesArchives asked.secret asked.timestamp))))
     c.from_residual.ensures.1
     (λ work. unopened_left asked a b c.in_err-store.ensures.untold c.in_err-store.ensures.did.each)
 
@@ -57,7 +58,7 @@ returns-clause-works g c =
     let m = g.D.Shelf.faults c.open.new.depot in
     let k = g.D.Shelf.faults c.tag_archives.new.depot in
     tagged_works asked store now (g.D.Shelf.told c.args.target.now) b d (g.D.Shelf.faults c.args.target.now) m k c.tag_archives.result
-    c.in_ok-store.ensures.opened c.in_ok-store.ensures.untold
+    c.in_ok-store.ensures.opened c.in_ok-store.ensures.untold c.in_ok-store.ensures.removes
     c.in_ok-store.ensures.did c.tag_archives.ensures.untold
     (subst (λ (t : Option (List ℕ)). Works (TagsSound (time_of t manifest) store) (Tags (time_of t manifest) store now) b d m k
     c.tag_archives.result) c.time_of-time.ensures c.tag_archives.ensures.works)
@@ -89,12 +90,13 @@ returns-clause-kept g c =
     let m = g.D.Shelf.faults c.open.new.depot in
     let k = g.D.Shelf.faults c.tag_archives.new.depot in
     let works = tagged_works asked store now a b d n m k c.tag_archives.result
-    c.in_ok-store.ensures.opened c.in_ok-store.ensures.untold
+    c.in_ok-store.ensures.opened c.in_ok-store.ensures.untold c.in_ok-store.ensures.removes
     c.in_ok-store.ensures.did c.tag_archives.ensures.untold
     (subst (λ (t : Option (List ℕ)). Works (TagsSound (time_of t manifest) store) (Tags (time_of t manifest) store now) b d m k
     c.tag_archives.result) c.time_of-time.ensures c.tag_archives.ensures.works) in
     IfErr-weaker c.tag_archives.result _ _
-    (λ fault keeps work. untagged_left asked store a b d n m c.in_ok-store.ensures.opened c.in_ok-store.ensures.untold c.in_ok-store.ensures.did
+    (λ fault keeps work. untagged_left asked store a b d n m c.in_ok-store.ensures.opened c.in_ok-store.ensures.untold
+    c.in_ok-store.ensures.removes c.in_ok-store.ensures.did
     c.tag_archives.ensures.untold (keeps work) works.each)
     c.tag_archives.ensures.keeps
 
