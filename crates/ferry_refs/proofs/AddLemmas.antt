@@ -1,7 +1,7 @@
 -- Lemmas on specs/TagSteps.antt: records that are added with their tags, one after another, and why one isn't.
-use Rattle.std.proofs.Common.{◌≡◌, inl, inr, ℕ, zero, suc, ◌+◌, ◌<◌, false, List, [], ◌∷◌, ◌++◌, length, take, get_or}
-use Rattle.std.proofs.Common.{Option, Some, None, Result, Ok, Err, IfSome, refl, sym, ◌∙◌, ap, subst, arith}
-use Rattle.std.proofs.lemmas.List.{map-append, take_more}
+use Rattle.std.proofs.Common.{◌≡◌, inr, ℕ, zero, suc, ◌+◌, ◌<◌, false, List, [], ◌∷◌, ◌++◌, length, take, get_or}
+use Rattle.std.proofs.Common.{Option, Some, None, option_map, append_assoc, Result, Ok, Err, IfSome, refl, sym, ◌∙◌, ap, subst, arith}
+use Rattle.std.proofs.lemmas.List.{append-nil, map-append, take_more}
 use Rattle.std.proofs.lemmas.Option.{IfSome_then}
 use Rattle.ferry_blob.specs.Blob.{content_id}
 use Rattle.ferry_disk.proofs.DeviceLemmas.{told_any}
@@ -28,8 +28,8 @@ use Rattle.ferry_write.specs.Script.{AllDone}
 use Rattle.ferry_refs.proofs.DropLemmas.{leaves_here}
 use Rattle.ferry_refs.proofs.RenewLemmas.{texts_none, texts_then}
 use Rattle.ferry_refs.specs.Deleting.{LeavesCommitted}
-use Rattle.ferry_refs.specs.TagSteps.{AddsTexts, RefusesNewRecord, RefusesOneOf, RefusesRenewal, old_view, olds_view}
-use Rattle.ferry_refs.specs.Tagging.{AreRenewals, IsRenewal, OldRecord, ids_under}
+use Rattle.ferry_refs.specs.TagSteps.{AddsTexts, RefusesNewRecord, RefusesRenewal, RefusesSome, old_view, olds_view}
+use Rattle.ferry_refs.specs.Tagging.{AreRenewals, DrawsRenewal, DrawsRenewals, IsRenewal, OldRecord, ids_under, salts_in}
 use Rattle.ferry_refs.specs.declared.untagged.Untagged.{Untagged}
 
 -- ---- what each stop shows
@@ -49,16 +49,21 @@ texts_leave store middle texts h g i leaves done adds later counts fits =
 -- ---- records so far
 
 -- Records were added with their tags, each under its id.
-pub record AddedTexts (keys : Keys) (olds : List OldRecord) (ids : List (List ℕ)) (store now : Store) (a b : Option Told) (n m : ℕ) : Type 0 where
+pub record AddedTexts (keys : Keys) (olds : List OldRecord) (ids : List (List ℕ)) (store now : Store) (a b : Option Told) (n m : ℕ)
+    (drawn drawn_now : Option (List ℕ)) : Type 0 where
   pub texts : List (List ℕ)
-  pub renewals : AreRenewals keys olds texts
+  pub drew : DrawsRenewals keys olds texts drawn drawn_now
   pub ids_are : ids ≡ ids_under keys texts
   pub works : Works {T = Unit {0}} (LeavesCommitted store) (λ _. AddsTexts texts store now) a b n m (Ok tt)
 
-pub added_none : (keys : Keys) (store : Store) (a : Option Told) (n : ℕ) → AddedTexts keys [] [] store store a a n n
-added_none keys store a n = record {
+draws_nothing : (drawn : Option (List ℕ)) → drawn ≡ option_map (λ (bytes : List ℕ). bytes ++ []) drawn
+draws_nothing None = refl
+draws_nothing (Some bytes) = ap (λ (l : List ℕ). Some l) (sym (append-nil bytes))
+
+pub added_none : (keys : Keys) (store : Store) (a : Option Told) (n : ℕ) (drawn : Option (List ℕ)) → AddedTexts keys [] [] store store a a n n drawn drawn
+added_none keys store a n drawn = record {
   texts = [];
-  renewals = tt;
+  drew = (tt, draws_nothing drawn);
   ids_are = refl;
   works = record {
     each = here_each (LeavesCommitted store) a (leaves_here store);
@@ -68,12 +73,34 @@ added_none keys store a n = record {
   };
 }
 
-renewals_push : (keys : Keys) (olds : List OldRecord) (texts : List (List ℕ)) (old : OldRecord) (text : List ℕ) → AreRenewals keys olds texts
-    → IsRenewal keys old.archive text → AreRenewals keys (olds ++ old ∷ []) (texts ++ text ∷ [])
-renewals_push keys [] [] old text all one = (one, tt)
+renewals_push : (keys : Keys) (olds : List OldRecord) (texts : List (List ℕ)) (old : OldRecord) (text : List ℕ) (all : AreRenewals keys olds texts)
+    (one : IsRenewal keys old.archive text) → (both : AreRenewals keys (olds ++ old ∷ []) (texts ++ text ∷ []))
+    × (salts_in keys (olds ++ old ∷ []) (texts ++ text ∷ []) both ≡ salts_in keys olds texts all ++ one.salt)
+renewals_push keys [] [] old text all one = ((one, tt), append-nil one.salt)
 renewals_push keys [] (t ∷ texts) old text all one = absurd all
 renewals_push keys (o ∷ olds) [] old text all one = absurd all
-renewals_push keys (o ∷ olds) (t ∷ texts) old text all one = (all.0, renewals_push keys olds texts old text all.1 one)
+renewals_push keys (o ∷ olds) (t ∷ texts) old text all one =
+    let rest = renewals_push keys olds texts old text all.1 one in (
+      (all.0, rest.0),
+      ap (λ (l : List ℕ). all.0.salt ++ l) rest.1 ∙ sym (append_assoc all.0.salt (salts_in keys olds texts all.1) one.salt),
+    )
+
+-- bytes that were drawn behind others
+pub draws_joined : (drawn middle drawn_now : Option (List ℕ)) (some more all : List ℕ) → middle ≡ option_map (λ (bytes : List ℕ). bytes ++ some) drawn
+    → drawn_now ≡ option_map (λ (bytes : List ℕ). bytes ++ more) middle → some ++ more ≡ all
+    → drawn_now ≡ option_map (λ (bytes : List ℕ). bytes ++ all) drawn
+draws_joined None middle drawn_now some more all first second is = second ∙ ap (option_map (λ (bytes : List ℕ). bytes ++ more)) first
+draws_joined (Some d) middle drawn_now some more all first second is =
+    second
+    ∙ (ap (option_map (λ (bytes : List ℕ). bytes ++ more)) first
+    ∙ ap (λ (l : List ℕ). Some l) (append_assoc d some more ∙ ap (λ (l : List ℕ). d ++ l) is))
+
+draws_push : (keys : Keys) (olds : List OldRecord) (texts : List (List ℕ)) (old : OldRecord) (text : List ℕ) (drawn middle drawn_now : Option (List ℕ))
+    → DrawsRenewals keys olds texts drawn middle → DrawsRenewal keys old.archive text middle drawn_now
+    → DrawsRenewals keys (olds ++ old ∷ []) (texts ++ text ∷ []) drawn drawn_now
+draws_push keys olds texts old text drawn middle drawn_now some one =
+    let both = renewals_push keys olds texts old text some.0 one.0 in
+    (both.0, draws_joined drawn middle drawn_now (salts_in keys olds texts some.0) one.0.salt _ some.1 one.1 (sym both.1))
 
 -- one behind others
 pub both_works : {T U : Type 0} (store middle now : Store) (some more : List (List ℕ)) (a b c : Option Told) (n m k : ℕ) (x : T)
@@ -88,13 +115,13 @@ both_works {T} {U} store middle now some more a b c n m k x result same p q =
     (λ _ h g i first second. texts_then store middle now some more h g i same first second) p q
 
 pub added_more : {T : Type 0} (store middle now : Store) (untagged : List Untagged) (place : ℕ) (d : Untagged) (ids : List (List ℕ)) (text id : List ℕ)
-    (a b c : Option Told) (n m k : ℕ) (x : T) → place < length untagged → d ≡ get_or untagged place d
+    (a b c : Option Told) (n m k : ℕ) (x : T) (drawn drawn_then drawn_now : Option (List ℕ)) → place < length untagged → d ≡ get_or untagged place d
     → (repo_view middle.repo).keys ≡ (repo_view store.repo).keys
-    → AddedTexts (repo_view store.repo).keys (olds_view (take place untagged)) ids store middle a b n m
+    → AddedTexts (repo_view store.repo).keys (olds_view (take place untagged)) ids store middle a b n m drawn drawn_then
     → Works {T = T} (LeavesCommitted middle) (λ _. AddsTexts (text ∷ []) middle now) b c m k (Ok x)
-    → IsRenewal (repo_view middle.repo).keys (archive_view d.archive) text → id ≡ content_id (repo_view middle.repo).keys text
-    → AddedTexts (repo_view store.repo).keys (olds_view (take (place + 1) untagged)) (ids ++ id ∷ []) store now a c n k
-added_more {T} store middle now untagged place d ids text id a b c n m k x lt at same some one renewal id_is =
+    → DrawsRenewal (repo_view middle.repo).keys (archive_view d.archive) text drawn_then drawn_now → id ≡ content_id (repo_view middle.repo).keys text
+    → AddedTexts (repo_view store.repo).keys (olds_view (take (place + 1) untagged)) (ids ++ id ∷ []) store now a c n k drawn drawn_now
+added_more {T} store middle now untagged place d ids text id a b c n m k x drawn drawn_then drawn_now lt at same some one renewal id_is =
     let keys = (repo_view store.repo).keys in
     let old = old_view (get_or untagged place d) in
     let olds : olds_view (take (place + 1) untagged) ≡ olds_view (take place untagged) ++ old ∷ [] =
@@ -102,10 +129,10 @@ added_more {T} store middle now untagged place d ids text id a b c n m k x lt at
     let last = both_works {T = Unit {0}} {U = T} store middle now some.texts (text ∷ []) a b c n m k tt (Ok x) same some.works one in
     record {
       texts = some.texts ++ text ∷ [];
-      renewals = subst (λ (l : List OldRecord). AreRenewals keys l (some.texts ++ text ∷ [])) (sym olds)
-          (renewals_push keys (olds_view (take place untagged)) some.texts old text some.renewals
-          (subst (λ (u : Untagged). IsRenewal keys (archive_view u.archive) text) at
-          (subst (λ (s : Keys). IsRenewal s (archive_view d.archive) text) same renewal)));
+      drew = subst (λ (l : List OldRecord). DrawsRenewals keys l (some.texts ++ text ∷ []) drawn drawn_now) (sym olds)
+          (draws_push keys (olds_view (take place untagged)) some.texts old text drawn drawn_then drawn_now some.drew
+          (subst (λ (u : Untagged). DrawsRenewal keys (archive_view u.archive) text drawn_then drawn_now) at
+          (subst (λ (s : Keys). DrawsRenewal s (archive_view d.archive) text drawn_then drawn_now) same renewal)));
       ids_are = ap (λ (l : List (List ℕ)). l ++ id ∷ []) some.ids_are
           ∙ (ap (λ (i : List ℕ). ids_under keys some.texts ++ i ∷ []) (id_is ∙ ap (λ (s : Keys). content_id s text) same)
           ∙ sym (map-append (content_id keys) some.texts (text ∷ [])));
@@ -150,27 +177,28 @@ renewal_unread keys archive (Carry.NotFound name) refused = refl
 renewal_unread keys archive Carry.Pieces refused = refl
 
 -- there is no text of it
-pub renewal_refused : (keys : Keys) (archive : ArchiveText) (now : Option Told) (fault : CarryFault) → RefusesRenewal keys archive fault
-    → RefusesNewRecord keys archive now fault
-renewal_refused keys archive now Carry.Record refused = refused
-renewal_refused keys archive now Carry.Memory refused = tt
-renewal_refused keys archive now (Carry.Target Stores.Entropy) refused = told_any now (λ f. Unit {0}) (λ f. tt)
-renewal_refused keys archive now (Carry.Target (Stores.Repo fault)) refused = absurd refused
-renewal_refused keys archive now (Carry.Target (Stores.Write fault)) refused = absurd refused
-renewal_refused keys archive now (Carry.Target (Stores.Nonce fault)) refused = absurd refused
-renewal_refused keys archive now (Carry.Target Stores.Committed) refused = absurd refused
-renewal_refused keys archive now (Carry.Target Stores.TooLarge) refused = absurd refused
-renewal_refused keys archive now (Carry.Target Stores.Memory) refused = absurd refused
-renewal_refused keys archive now (Carry.Source fault) refused = absurd refused
-renewal_refused keys archive now (Carry.Taken name) refused = absurd refused
-renewal_refused keys archive now (Carry.NotFound name) refused = absurd refused
-renewal_refused keys archive now Carry.Pieces refused = absurd refused
+pub renewal_refused : (keys : Keys) (archive : ArchiveText) (drawn drawn_now : Option (List ℕ)) (now : Option Told) (fault : CarryFault)
+    → RefusesRenewal keys archive fault → RefusesNewRecord keys archive drawn drawn_now now fault
+renewal_refused keys archive drawn drawn_now now Carry.Record refused = refused
+renewal_refused keys archive drawn drawn_now now Carry.Memory refused = tt
+renewal_refused keys archive drawn drawn_now now (Carry.Target Stores.Entropy) refused = told_any now (λ f. Unit {0}) (λ f. tt)
+renewal_refused keys archive drawn drawn_now now (Carry.Target (Stores.Repo fault)) refused = absurd refused
+renewal_refused keys archive drawn drawn_now now (Carry.Target (Stores.Write fault)) refused = absurd refused
+renewal_refused keys archive drawn drawn_now now (Carry.Target (Stores.Nonce fault)) refused = absurd refused
+renewal_refused keys archive drawn drawn_now now (Carry.Target Stores.Committed) refused = absurd refused
+renewal_refused keys archive drawn drawn_now now (Carry.Target Stores.TooLarge) refused = absurd refused
+renewal_refused keys archive drawn drawn_now now (Carry.Target Stores.Memory) refused = absurd refused
+renewal_refused keys archive drawn drawn_now now (Carry.Source fault) refused = absurd refused
+renewal_refused keys archive drawn drawn_now now (Carry.Taken name) refused = absurd refused
+renewal_refused keys archive drawn drawn_now now (Carry.NotFound name) refused = absurd refused
+renewal_refused keys archive drawn drawn_now now Carry.Pieces refused = absurd refused
 
 -- the store refuses it
-module _ (store : Store) (archive : ArchiveText) (text : List ℕ) (now : Option Told) (renewal : IsRenewal (repo_view store.repo).keys archive text) where
+module _ (store : Store) (archive : ArchiveText) (text : List ℕ) (drawn drawn_now : Option (List ℕ)) (now : Option Told)
+    (renewal : DrawsRenewal (repo_view store.repo).keys archive text drawn drawn_now) where
   -- What is said of a refusal.
   abbrev Says : StoreRefusal → Type 0
-  Says refusal = RefusesNewRecord (repo_view store.repo).keys archive now (target_fault refusal)
+  Says refusal = RefusesNewRecord (repo_view store.repo).keys archive drawn drawn_now now (target_fault refusal)
 
   abbrev Stops : StoreRefusal → Type 0
   Stops refusal = IfSome now (λ t. StopsAt t.history.start (told_files t) (repo_view store.repo).keys refusal)
@@ -202,13 +230,29 @@ module _ (store : Store) (archive : ArchiveText) (text : List ℕ) (now : Option
       → IfSome before (λ _. Says refusal)
   new_refused before refusal refused stops = IfSome_then before refused (λ t r. one_refused t refusal r stops)
 
--- one of several isn't
-pub one_of : (keys : Keys) (untagged : List Untagged) (place : ℕ) (d : Untagged) (now : Option Told) (fault : CarryFault) → place < length untagged
-    → d ≡ get_or untagged place d → RefusesNewRecord keys (archive_view d.archive) now fault → RefusesOneOf keys (olds_view untagged) now fault
-one_of keys [] place d now fault lt at refused = absurd (omega arith)
-one_of keys (u ∷ us) zero d now fault lt at refused = inl (subst (λ (x : Untagged). RefusesNewRecord keys (archive_view x.archive) now fault) at refused)
-one_of keys (u ∷ us) (suc place) d now fault lt at refused = inr (one_of keys us place d now fault (omega arith) at refused)
+-- a place parts a list
+parted_at : (untagged : List Untagged) (place : ℕ) (d : Untagged) → place < length untagged
+    → (rest : List Untagged) × (untagged ≡ take place untagged ++ get_or untagged place d ∷ rest)
+parted_at [] place d lt = absurd (omega (arith, lt))
+parted_at (u ∷ us) zero d lt = (us, refl)
+parted_at (u ∷ us) (suc place) d lt =
+    let rest = parted_at us place d (omega (arith, lt)) in (rest.0, ap (λ (l : List Untagged). u ∷ l) rest.1)
 
-pub memory_one_of : (keys : Keys) (olds : List OldRecord) (now : Option Told) → RefusesOneOf keys olds now Carry.Memory
-memory_one_of keys [] now = tt
-memory_one_of keys (old ∷ olds) now = inl tt
+-- one of several isn't
+pub one_of : (keys : Keys) (untagged : List Untagged) (place : ℕ) (d : Untagged) (texts : List (List ℕ)) (drawn drawn_then drawn_now : Option (List ℕ))
+    (now : Option Told) (fault : CarryFault) → place < length untagged → d ≡ get_or untagged place d
+    → DrawsRenewals keys (olds_view (take place untagged)) texts drawn drawn_then
+    → RefusesNewRecord keys (archive_view d.archive) drawn_then drawn_now now fault → RefusesSome keys (olds_view untagged) drawn drawn_now now fault
+one_of keys untagged place d texts drawn drawn_then drawn_now now fault lt at drew refused =
+    let parts = parted_at untagged place d lt in
+    let one = get_or untagged place d in
+    inr (record {
+      done = olds_view (take place untagged);
+      old = old_view one;
+      rest = olds_view parts.0;
+      split = ap olds_view parts.1 ∙ map-append old_view (take place untagged) (one ∷ parts.0);
+      texts = texts;
+      middle = drawn_then;
+      drew = drew;
+      refused = subst (λ (u : Untagged). RefusesNewRecord keys (archive_view u.archive) drawn_then drawn_now now fault) at refused;
+    })

@@ -1,5 +1,5 @@
 -- Lemmas on specs/TagSteps.antt: chunks that were dropped are deleted with the commit of the accepted manifest.
-use Rattle.std.proofs.Common.{◌≡◌, ◌<◌, inl, inr, ℕ, true, List, length, Option, Result, Ok, Err, IfErr, OnOk, refl, ◌∙◌, ap, subst}
+use Rattle.std.proofs.Common.{◌≡◌, ◌<◌, ◌++◌, inl, inr, ℕ, true, List, length, Option, option_map, Result, Ok, Err, IfErr, OnOk, refl, ◌∙◌, ap, subst}
 use Rattle.ferry_base.specs.Limits.{content_limit, zero_id}
 use Rattle.ferry_disk.proofs.MomentLemmas.{between_both, between_map}
 use Rattle.ferry_disk.specs.Act.{History}
@@ -150,3 +150,10 @@ free_refused store keys manifest salt text (Err (Refusal.Nonce fault)) sized sam
 free_refused store keys manifest salt text (Err Refusal.Committed) sized same refused = tt
 free_refused store keys manifest salt text (Err Refusal.Entropy) sized same refused = tt
 free_refused store keys manifest salt text (Err Refusal.Memory) sized same refused = tt
+
+-- a salt of 64 bytes was drawn where it is committed
+pub salt_drawn : (result : Result (Unit {0}) StoreRefusal) (salt : List ℕ) (drawn drawn_now : Option (List ℕ)) → length salt ≡ 64
+    → OnOk result (drawn_now ≡ option_map (λ (bytes : List ℕ). bytes ++ salt) drawn)
+    → OnOk result ((some : List ℕ) × ((length some ≡ 64) × (drawn_now ≡ option_map (λ (bytes : List ℕ). bytes ++ some) drawn)))
+salt_drawn (Ok x) salt drawn drawn_now sized is = (salt, (sized, is))
+salt_drawn (Err refusal) salt drawn drawn_now sized is = tt

@@ -1,5 +1,5 @@
 -- Lemmas on specs/TagSteps.antt: records that were added come under the names of their archives, and all is committed.
-use Rattle.std.proofs.Common.{◌≡◌, ◌≢◌, ◌<◌, arith, inl, inr, ℕ, suc, Bool, false, List, [], ◌∷◌, length, map, Option, Ok, Err}
+use Rattle.std.proofs.Common.{◌≡◌, ◌≢◌, ◌<◌, arith, inl, inr, ℕ, suc, Bool, false, List, [], ◌∷◌, ◌++◌, length, map, Option, option_map, Ok, Err}
 use Rattle.std.proofs.Common.{refl, sym, ◌∙◌, ap, subst}
 use Rattle.std.specs.List.{AllByRecursion}
 use Rattle.ferry_check.specs.Verify.{IsChunk}
@@ -37,11 +37,11 @@ use Rattle.ferry_store.specs.declared.fault.StoreRefusal.{StoreRefusal}
 use Rattle.ferry_store.specs.declared.fault.StoreRefusal.TheVariants as Refusal
 use Rattle.ferry_store.specs.declared.store.Store.{Store}
 use Rattle.ferry_write.specs.Script.{AllDone}
-use Rattle.ferry_refs.proofs.AddLemmas.{texts_leave}
+use Rattle.ferry_refs.proofs.AddLemmas.{draws_joined, texts_leave}
 use Rattle.ferry_refs.specs.Deleting.{LeavesCommitted, with_deleted}
 use Rattle.ferry_refs.specs.TagSteps.{AddsTexts, Frees, FreesSound, KeepsRepo, ShowsWithout, SoundTagged, TagsWith, olds_view}
-use Rattle.ferry_refs.specs.Tagging.{AreFreed, AreOld, AreRenewals, BringsTexts, OldRecord, ShowsRenewed, TagsSound, archives_in, ids_under, next_tagged}
-use Rattle.ferry_refs.specs.Tagging.{renewed, renewed_entries, with_puts}
+use Rattle.ferry_refs.specs.Tagging.{AreFreed, AreOld, AreRenewals, BringsTexts, DrawsRenewals, DrawsTags, OldRecord, ShowsRenewed, TagsSound}
+use Rattle.ferry_refs.specs.Tagging.{archives_in, ids_under, next_tagged, renewed, renewed_entries, salts_in, with_puts}
 use Rattle.ferry_refs.specs.declared.untagged.Untagged.{Untagged}
 
 -- ---- a store that accepted names
@@ -73,7 +73,8 @@ viewed_archives (u ∷ us) = ap (λ (l : List ArchiveRef). u.named ∷ l) (viewe
 
 -- ---- what is written
 
-module _ (time : List ℕ) (olds : List OldRecord) (texts : List (List ℕ)) (freed : List (List ℕ)) (store added named last : Store)
+module _ (time : List ℕ) (drawn drawn_now : Option (List ℕ)) (olds : List OldRecord) (texts : List (List ℕ)) (freed : List (List ℕ))
+    (store added named last : Store)
     (same : KeepsRepo (repo_view store.repo) (repo_view added.repo)) (rest : named ≡ record added { accepted = named.accepted })
     (some : olds ≢ []) (renewals : AreRenewals (repo_view store.repo).keys olds texts)
     (accepted : accepted_in named
@@ -131,8 +132,9 @@ module _ (time : List ℕ) (olds : List OldRecord) (texts : List (List ℕ)) (fr
       (subst (λ (w : Written). Moments (IsSound (ShowsWithout without freed w) counts) g i) written_is (frees counts both.0)))
 
   write_tags : (h g i : History) → repo_view last.repo ≡ with_manifest (repo_view named.repo) (written_at (accepted_in named) time)
-      → AddsTexts texts store added h g → Frees freed named last g i → TagsWith time olds freed store last h i
-  write_tags h g i view adds frees are_old are_freed counts fits =
+      → DrawsTags (repo_view store.repo).keys olds texts renewals drawn drawn_now → AddsTexts texts store added h g → Frees freed named last g i
+      → TagsWith time drawn drawn_now olds freed store last h i
+  write_tags h g i view drew adds frees are_old are_freed counts fits =
       let first = adds counts fits in
       let both = accepted_fits counts added named g rest first.fits in
       let end = frees counts both.0 in
@@ -143,6 +145,7 @@ module _ (time : List ℕ) (olds : List OldRecord) (texts : List (List ℕ)) (fr
         count_is = refl;
         texts = texts;
         renewals = renewals;
+        drew = drew;
         puts = first.puts;
         brings = first.brings;
         ids = freed;
@@ -156,14 +159,15 @@ module _ (time : List ℕ) (olds : List OldRecord) (texts : List (List ℕ)) (fr
 
   -- where all was committed
   pub works_written : {T U V : Type 0} (a b c : Option Told) (n m k : ℕ) (x : T) (y : U) (z : V)
-      → repo_view last.repo ≡ with_manifest (repo_view named.repo) (written_at (accepted_in named) time) → Between b c TellsNothing
+      → repo_view last.repo ≡ with_manifest (repo_view named.repo) (written_at (accepted_in named) time)
+      → DrawsTags (repo_view store.repo).keys olds texts renewals drawn drawn_now → Between b c TellsNothing
       → Works {T = T} (LeavesCommitted store) (λ _. AddsTexts texts store added) a b n m (Ok x)
       → Did {T = U} (FreesSound time freed named) (λ _. Frees freed named last) b c m k (Ok y)
-      → Works {T = V} (SoundTagged time olds freed store) (λ _. TagsWith time olds freed store last) a c n k (Ok z)
-  works_written {T} {U} {V} a b c n m k x y z view untold adds frees =
+      → Works {T = V} (SoundTagged time olds freed store) (λ _. TagsWith time drawn drawn_now olds freed store last) a c n k (Ok z)
+  works_written {T} {U} {V} a b c n m k x y z view drew untold adds frees =
       works_then (LeavesCommitted store) (λ (_ : T). AddsTexts texts store added) (FreesSound time freed named) (λ (_ : V). Frees freed named last)
-      (SoundTagged time olds freed store) (λ (_ : V). TagsWith time olds freed store last) a b c n m k x (Ok z)
-      (λ h g i leaves done q f. write_sound h g i leaves done q f) (λ _ h g i q f. write_tags h g i view q f) adds
+      (SoundTagged time olds freed store) (λ (_ : V). TagsWith time drawn drawn_now olds freed store last) a b c n m k x (Ok z)
+      (λ h g i leaves done q f. write_sound h g i leaves done q f) (λ _ h g i q f. write_tags h g i view drew q f) adds
       (works_ok (FreesSound time freed named) (λ (_ : U). Frees freed named last) (FreesSound time freed named) (λ (_ : V). Frees freed named last) b c m k y z
       (λ h g _ e. e) (λ h g e. e) untold frees)
 
@@ -171,7 +175,7 @@ module _ (time : List ℕ) (olds : List OldRecord) (texts : List (List ℕ)) (fr
   pub works_unwritten : {T U V : Type 0} (a b c : Option Told) (n m k : ℕ) (x : T) (refusal : StoreRefusal) → Between b c TellsNothing
       → Works {T = T} (LeavesCommitted store) (λ _. AddsTexts texts store added) a b n m (Ok x)
       → Did {T = U} (FreesSound time freed named) (λ _. Frees freed named last) b c m k (Err refusal)
-      → Works {T = V} (SoundTagged time olds freed store) (λ _. TagsWith time olds freed store last) a c n k (Err (target_fault refusal))
+      → Works {T = V} (SoundTagged time olds freed store) (λ _. TagsWith time drawn drawn_now olds freed store last) a c n k (Err (target_fault refusal))
   works_unwritten {T} {U} {V} a b c n m k x refusal untold adds frees =
       let first = works_then (LeavesCommitted store) (λ (_ : T). AddsTexts texts store added) (FreesSound time freed named) (λ (_ : V). Frees freed named last)
       (SoundTagged time olds freed store) (λ (_ : V) (h : History) (g : History). Unit {0}) a b c n m k x (Err (target_fault refusal))
@@ -225,6 +229,17 @@ module _ (time : List ℕ) (olds : List OldRecord) (freed : List (List ℕ)) (st
   }
 
 -- ---- the steps of a body
+
+-- the salt of the manifest was drawn behind those of some texts
+pub tags_drawn : (keys : Keys) (olds : List OldRecord) (texts : List (List ℕ)) (drawn middle drawn_now : Option (List ℕ)) → olds ≢ []
+    → (drew : DrawsRenewals keys olds texts drawn middle)
+    → (salt : List ℕ) × ((length salt ≡ 64) × (drawn_now ≡ option_map (λ (bytes : List ℕ). bytes ++ salt) middle))
+    → DrawsTags keys olds texts drew.0 drawn drawn_now
+tags_drawn keys [] texts drawn middle drawn_now some drew last = absurd (some refl)
+tags_drawn keys (old ∷ olds) texts drawn middle drawn_now some drew last = (
+  last.0,
+  (last.1.0, draws_joined drawn middle drawn_now (salts_in keys (old ∷ olds) texts drew.0) last.0 _ drew.1 last.1.1 refl),
+)
 
 -- where some archives were found, there are some old records
 pub some_olds : (untagged : List Untagged) → 0 < length untagged → olds_view untagged ≢ []

@@ -1,5 +1,5 @@
 -- Lemmas on specs/Tagging.antt: what is read of records without a tag over other files in which the same blobs lie.
-use Rattle.std.proofs.Common.{inl, inr, ℕ, List, Option}
+use Rattle.std.proofs.Common.{inl, inr, ℕ, List, ◌∷◌, ◌++◌, Option}
 use Rattle.ferry_disk.specs.Device.{Told}
 use Rattle.ferry_disk.specs.Files.{Files}
 use Rattle.ferry_manifest.specs.Record.Text.{ArchiveText}
@@ -46,50 +46,65 @@ freed_same files other repo ids lie back freed = record {
 }
 
 -- why archives aren't tagged
-pub tag_refused_same : (files other : Files) (repo : RepoState) (time : List ℕ) (now : Option Told) (fault : CarryFault) → LieIn files other repo
-    → RefusesTagging files repo time now fault → RefusesTagging other repo time now fault
-tag_refused_same files other repo time now (Carry.Target (Stores.Repo Repos.Device)) lie refused = tt
-tag_refused_same files other repo time now (Carry.Target (Stores.Repo (Repos.Blob id f))) lie (inl refused) =
+pub tag_refused_same : (files other : Files) (repo : RepoState) (time : List ℕ) (drawn drawn_now : Option (List ℕ)) (now : Option Told) (fault : CarryFault)
+    → LieIn files other repo → RefusesTagging files repo time drawn drawn_now now fault → RefusesTagging other repo time drawn drawn_now now fault
+tag_refused_same files other repo time drawn drawn_now now (Carry.Target (Stores.Repo Repos.Device)) lie refused = tt
+tag_refused_same files other repo time drawn drawn_now now (Carry.Target (Stores.Repo (Repos.Blob id f))) lie (inl refused) =
     inl (refs_refused_same files other repo lie (Repos.Blob id f) refused)
-tag_refused_same files other repo time now (Carry.Target (Stores.Repo (Repos.Blob id f))) lie (inr refused) =
-    inr ((refused.0.0, (refused.0.1.0, (record_read_same files other repo lie refused.0.0 refused.0.1.0 refused.0.1.1.0, refused.0.1.1.1))), refused.1)
-tag_refused_same files other repo time now (Carry.Target (Stores.Repo Repos.NoCommit)) lie refused =
+tag_refused_same files other repo time drawn drawn_now now (Carry.Target (Stores.Repo (Repos.Blob id f))) lie (inr refused) =
+    let new = refused.0 in
+    inr (
+      record {
+        done = new.done;
+        old = new.old;
+        rest = new.rest;
+        are_old = old_same files other repo lie repo.manifest.archives (new.done ++ new.old ∷ new.rest) new.are_old;
+        texts = new.texts;
+        middle = new.middle;
+        drew = new.drew;
+        text = new.text;
+        draws = new.draws;
+        id_is = new.id_is;
+      },
+      refused.1,
+    )
+tag_refused_same files other repo time drawn drawn_now now (Carry.Target (Stores.Repo Repos.NoCommit)) lie refused =
     (refused.0, refs_refused_same files other repo lie Repos.NoCommit refused.1)
-tag_refused_same files other repo time now (Carry.Target (Stores.Repo (Repos.Damaged segment at))) lie refused =
+tag_refused_same files other repo time drawn drawn_now now (Carry.Target (Stores.Repo (Repos.Damaged segment at))) lie refused =
     (refused.0, refs_refused_same files other repo lie (Repos.Damaged segment at) refused.1)
-tag_refused_same files other repo time now (Carry.Target (Stores.Repo (Repos.Config f))) lie refused =
+tag_refused_same files other repo time drawn drawn_now now (Carry.Target (Stores.Repo (Repos.Config f))) lie refused =
     (refused.0, refs_refused_same files other repo lie (Repos.Config f) refused.1)
-tag_refused_same files other repo time now (Carry.Target (Stores.Repo (Repos.Key f))) lie refused =
+tag_refused_same files other repo time drawn drawn_now now (Carry.Target (Stores.Repo (Repos.Key f))) lie refused =
     (refused.0, refs_refused_same files other repo lie (Repos.Key f) refused.1)
-tag_refused_same files other repo time now (Carry.Target (Stores.Repo (Repos.Missing id))) lie refused =
+tag_refused_same files other repo time drawn drawn_now now (Carry.Target (Stores.Repo (Repos.Missing id))) lie refused =
     (refused.0, refs_refused_same files other repo lie (Repos.Missing id) refused.1)
-tag_refused_same files other repo time now (Carry.Target (Stores.Repo (Repos.Manifest f))) lie refused =
+tag_refused_same files other repo time drawn drawn_now now (Carry.Target (Stores.Repo (Repos.Manifest f))) lie refused =
     (refused.0, refs_refused_same files other repo lie (Repos.Manifest f) refused.1)
-tag_refused_same files other repo time now (Carry.Target (Stores.Repo (Repos.Archive id f))) lie refused =
+tag_refused_same files other repo time drawn drawn_now now (Carry.Target (Stores.Repo (Repos.Archive id f))) lie refused =
     (refused.0, refs_refused_same files other repo lie (Repos.Archive id f) refused.1)
-tag_refused_same files other repo time now (Carry.Target (Stores.Repo (Repos.Item id f))) lie refused =
+tag_refused_same files other repo time drawn drawn_now now (Carry.Target (Stores.Repo (Repos.Item id f))) lie refused =
     (refused.0, refs_refused_same files other repo lie (Repos.Item id f) refused.1)
-tag_refused_same files other repo time now (Carry.Target (Stores.Repo (Repos.Size id))) lie refused =
+tag_refused_same files other repo time drawn drawn_now now (Carry.Target (Stores.Repo (Repos.Size id))) lie refused =
     (refused.0, refs_refused_same files other repo lie (Repos.Size id) refused.1)
-tag_refused_same files other repo time now (Carry.Target (Stores.Repo (Repos.KeyFile f))) lie refused =
+tag_refused_same files other repo time drawn drawn_now now (Carry.Target (Stores.Repo (Repos.KeyFile f))) lie refused =
     (refused.0, refs_refused_same files other repo lie (Repos.KeyFile f) refused.1)
-tag_refused_same files other repo time now (Carry.Target (Stores.Repo (Repos.Other file config))) lie refused =
+tag_refused_same files other repo time drawn drawn_now now (Carry.Target (Stores.Repo (Repos.Other file config))) lie refused =
     (refused.0, refs_refused_same files other repo lie (Repos.Other file config) refused.1)
-tag_refused_same files other repo time now (Carry.Target (Stores.Repo Repos.NoKey)) lie refused =
+tag_refused_same files other repo time drawn drawn_now now (Carry.Target (Stores.Repo Repos.NoKey)) lie refused =
     (refused.0, refs_refused_same files other repo lie Repos.NoKey refused.1)
-tag_refused_same files other repo time now (Carry.Target (Stores.Repo Repos.Memory)) lie refused =
+tag_refused_same files other repo time drawn drawn_now now (Carry.Target (Stores.Repo Repos.Memory)) lie refused =
     (refused.0, refs_refused_same files other repo lie Repos.Memory refused.1)
-tag_refused_same files other repo time now (Carry.Target (Stores.Write f)) lie refused = refused
-tag_refused_same files other repo time now (Carry.Target (Stores.Nonce f)) lie refused = refused
-tag_refused_same files other repo time now (Carry.Target Stores.Committed) lie refused = refused
-tag_refused_same files other repo time now (Carry.Target Stores.Entropy) lie refused = refused
-tag_refused_same files other repo time now (Carry.Target Stores.Memory) lie refused = refused
-tag_refused_same files other repo time now (Carry.Target Stores.TooLarge) lie refused =
+tag_refused_same files other repo time drawn drawn_now now (Carry.Target (Stores.Write f)) lie refused = refused
+tag_refused_same files other repo time drawn drawn_now now (Carry.Target (Stores.Nonce f)) lie refused = refused
+tag_refused_same files other repo time drawn drawn_now now (Carry.Target Stores.Committed) lie refused = refused
+tag_refused_same files other repo time drawn drawn_now now (Carry.Target Stores.Entropy) lie refused = refused
+tag_refused_same files other repo time drawn drawn_now now (Carry.Target Stores.Memory) lie refused = refused
+tag_refused_same files other repo time drawn drawn_now now (Carry.Target Stores.TooLarge) lie refused =
     (refused.0, (old_same files other repo lie repo.manifest.archives refused.0 refused.1.0, refused.1.1))
-tag_refused_same files other repo time now Carry.Record lie refused =
+tag_refused_same files other repo time drawn drawn_now now Carry.Record lie refused =
     (refused.0, (refused.1.0, (record_read_same files other repo lie refused.0 refused.1.0 refused.1.1.0, refused.1.1.1)))
-tag_refused_same files other repo time now Carry.Memory lie refused = tt
-tag_refused_same files other repo time now (Carry.Source f) lie refused = absurd refused
-tag_refused_same files other repo time now (Carry.Taken taken) lie refused = absurd refused
-tag_refused_same files other repo time now (Carry.NotFound missing) lie refused = absurd refused
-tag_refused_same files other repo time now Carry.Pieces lie refused = absurd refused
+tag_refused_same files other repo time drawn drawn_now now Carry.Memory lie refused = tt
+tag_refused_same files other repo time drawn drawn_now now (Carry.Source f) lie refused = absurd refused
+tag_refused_same files other repo time drawn drawn_now now (Carry.Taken taken) lie refused = absurd refused
+tag_refused_same files other repo time drawn drawn_now now (Carry.NotFound missing) lie refused = absurd refused
+tag_refused_same files other repo time drawn drawn_now now Carry.Pieces lie refused = absurd refused

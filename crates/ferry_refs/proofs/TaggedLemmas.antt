@@ -33,8 +33,8 @@ use Rattle.ferry_refs.proofs.RenamedLemmas.{names_kept, old_reads, tagged_name, 
 use Rattle.ferry_refs.proofs.SparedLemmas.{all_spared, rest_spared}
 use Rattle.ferry_refs.proofs.WholeLemmas.{all_among, all_parted, chunks_left, read_of, whole_left, wholes_left}
 use Rattle.ferry_refs.specs.Deleting.{with_deleted}
-use Rattle.ferry_refs.specs.Tagging.{IsFreed, IsOfText, IsLiveText, IsUntagged, KeepsArchives, OldRecord, ShowsRenewed, ShowsTagged, next_tagged, renewed_entry}
-use Rattle.ferry_refs.specs.Tagging.{tagged_manifest, with_puts}
+use Rattle.ferry_refs.specs.Tagging.{AreRenewals, IsFreed, IsOfText, IsLiveText, IsUntagged, KeepsArchives, OldRecord, ShowsRenewed, ShowsTagged, next_tagged}
+use Rattle.ferry_refs.specs.Tagging.{renewed_entry, tagged_manifest, with_puts}
 
 -- ---- what is left
 
@@ -339,43 +339,51 @@ module _ (secret : Secret) (start image : Files) (repo : RepoState) (time : List
                 let no : false ≡ true = sym u.untagged ∙ tagged in
                 cc
 
-    pub tagged_left : KeepsArchives secret start repo time true image
-    tagged_left =
+    -- the same, with what holds of the new records
+    pub tagged_with : (Holds : (olds : List OldRecord) (texts : List (List ℕ)) → AreRenewals repo.keys olds texts → Type 0)
+        → Holds shows.olds shows.texts shows.renewals
+        → (left : KeepsArchives secret start repo time true image) × Holds left.olds left.texts left.renewals
+    tagged_with Holds holds =
         let live = stands_live secret image next (with_deleted (with_puts (found (Some committed) start) shows.puts) shows.ids shows.blob) shows.shows
         (opened_unlocks start secret repo opens) shows.manifest in
-        let now = record next { log = live.log } in
-        record {
-          repo = now;
-          opens = live.opens;
-          config = shows.shows.1;
-          names = names_kept start repo shows.olds shows.texts time shows.are_old;
-          olds = shows.olds;
-          are_tagged = shows.are_old;
-          texts = shows.texts;
-          renewals = shows.renewals;
-          manifest = sym (some_tagged repo.keys repo.manifest shows.olds shows.texts time shows.some);
-          wholes = λ scope apart all within name whole has.
-              let is = start_whole name whole has in
-              record {
-                repo = now;
-                opens = live.opens;
-                is = whole_by live.log live.blobs scope apart all within name whole is is.archive.tagged refl;
-              };
-          untagged = λ scope apart all within name. (
-            λ u. absurd (none_untagged live.log live.blobs scope apart all within name u),
-            λ both. absurd (let no : true ≡ false = both.1 in let l : ⊥ = cc in l),
-          );
-          kept = λ id blob chunk has still. kept_there live.log live.blobs id blob chunk
-              (elim (either_way (is_among id shows.ids)) [
-                | inl on ↦ absurd (still refl ((shows.freed.each id).0 on))
-                | inr off ↦ off
-              ]) has;
-          gone = λ id blob chunk _ freed has. none_gone live.log live.blobs id blob chunk ((shows.freed.each id).1 freed) has;
-          only = λ id blob chunk has. elim (put_from live.log live.blobs id blob (there_put live.log live.blobs id blob chunk has)) [
-            | inl was ↦ inl was
-            | inr of ↦ inr (refl, of)
-          ];
-        }
+        let now = record next { log = live.log } in (
+          record {
+            repo = now;
+            opens = live.opens;
+            config = shows.shows.1;
+            names = names_kept start repo shows.olds shows.texts time shows.are_old;
+            olds = shows.olds;
+            are_tagged = shows.are_old;
+            texts = shows.texts;
+            renewals = shows.renewals;
+            manifest = sym (some_tagged repo.keys repo.manifest shows.olds shows.texts time shows.some);
+            wholes = λ scope apart all within name whole has.
+                let is = start_whole name whole has in
+                record {
+                  repo = now;
+                  opens = live.opens;
+                  is = whole_by live.log live.blobs scope apart all within name whole is is.archive.tagged refl;
+                };
+            untagged = λ scope apart all within name. (
+              λ u. absurd (none_untagged live.log live.blobs scope apart all within name u),
+              λ both. absurd (let no : true ≡ false = both.1 in let l : ⊥ = cc in l),
+            );
+            kept = λ id blob chunk has still. kept_there live.log live.blobs id blob chunk
+                (elim (either_way (is_among id shows.ids)) [
+                  | inl on ↦ absurd (still refl ((shows.freed.each id).0 on))
+                  | inr off ↦ off
+                ]) has;
+            gone = λ id blob chunk _ freed has. none_gone live.log live.blobs id blob chunk ((shows.freed.each id).1 freed) has;
+            only = λ id blob chunk has. elim (put_from live.log live.blobs id blob (there_put live.log live.blobs id blob chunk has)) [
+              | inl was ↦ inl was
+              | inr of ↦ inr (refl, of)
+            ];
+          },
+          holds,
+        )
+
+    pub tagged_left : KeepsArchives secret start repo time true image
+    tagged_left = (tagged_with (λ olds texts renewals. Unit {0}) tt).0
 
   pub renewed_left : ShowsRenewed start repo time (found (Some committed) start) image
       → (tagged : Bool) × KeepsArchives secret start repo time tagged image

@@ -77,7 +77,8 @@ did_old {T} olds ids store repo a b n m x same_repo same caused repo_fits old fr
 
 -- ---- what was written behind it
 
-module _ (time : List ℕ) (store read last : Store) (olds : List OldRecord) (ids : List (List ℕ)) (same : repo_view read.repo ≡ repo_view store.repo) where
+module _ (time : List ℕ) (drawn drawn_now : Option (List ℕ)) (store read last : Store) (olds : List OldRecord) (ids : List (List ℕ))
+    (same : repo_view read.repo ≡ repo_view store.repo) where
   -- they are so for the store that was read, too
   old_behind : (h g : History) → ReadsOld olds ids store read h g
       → AreOld (files_now g) (repo_view read.repo) (repo_view read.repo).manifest.archives olds
@@ -103,10 +104,10 @@ module _ (time : List ℕ) (store read last : Store) (olds : List OldRecord) (id
       (subst (λ (f : Files). Moments (IsSound (ShowsRenewed f (repo_view read.repo) time first.0.written) counts) g i) (ap files_now q.same) later)))
 
   tags_by : (h g i : History) (counts : Bool) (fits : StoreFits counts store h) (q : ReadsOld olds ids store read h g)
-      → NeedsNoTag (repo_view read.repo) (length olds) g i
-      ⊎ HasTagged counts time (files_now g) (repo_view read.repo) (q.fits counts fits).0.written last (length olds) i
-      → NeedsNoTag (repo_view store.repo) (length olds) h i
-      ⊎ HasTagged counts time (files_now h) (repo_view store.repo) fits.written last (length olds) i
+      → NeedsNoTag drawn drawn_now (repo_view read.repo) (length olds) g i
+      ⊎ HasTagged counts time drawn drawn_now (files_now g) (repo_view read.repo) (q.fits counts fits).0.written last (length olds) i
+      → NeedsNoTag drawn drawn_now (repo_view store.repo) (length olds) h i
+      ⊎ HasTagged counts time drawn drawn_now (files_now h) (repo_view store.repo) fits.written last (length olds) i
   tags_by h g i counts fits q (inl none) =
       inl (record {
         none = subst (λ (r : RepoState). AreOld (files_now h) r r.manifest.archives []) same
@@ -115,44 +116,49 @@ module _ (time : List ℕ) (store read last : Store) (olds : List OldRecord) (id
         are_read = subst (λ (r : RepoState). AreRead (files_now h) r r.manifest.archives none.reads) same
             (subst (λ (f : Files). AreRead f (repo_view read.repo) (repo_view read.repo).manifest.archives none.reads) (ap files_now q.same) none.are_read);
         count_is = none.count_is;
+        undrawn = none.undrawn;
         same = none.same ∙ q.same;
       })
   tags_by h g i counts fits q (inr tagged) =
       let first = q.fits counts fits in
-      inr (subst (λ (w : Written). HasTagged counts time (files_now h) (repo_view store.repo) w last (length olds) i) first.1
-      (subst (λ (r : RepoState). HasTagged counts time (files_now h) r first.0.written last (length olds) i) same
-      (subst (λ (f : Files). HasTagged counts time f (repo_view read.repo) first.0.written last (length olds) i) (ap files_now q.same) tagged)))
+      inr (subst (λ (w : Written). HasTagged counts time drawn drawn_now (files_now h) (repo_view store.repo) w last (length olds) i) first.1
+      (subst (λ (r : RepoState). HasTagged counts time drawn drawn_now (files_now h) r first.0.written last (length olds) i) same
+      (subst (λ (f : Files). HasTagged counts time drawn drawn_now f (repo_view read.repo) first.0.written last (length olds) i) (ap files_now q.same) tagged)))
 
-  tags_behind : (h g i : History) → ReadsOld olds ids store read h g → TagsWith time olds ids read last g i → Tags time store last (length olds) h i
+  tags_behind : (h g i : History) → ReadsOld olds ids store read h g → TagsWith time drawn drawn_now olds ids read last g i
+      → Tags time drawn drawn_now store last (length olds) h i
   tags_behind h g i q tags counts fits =
       tags_by h g i counts fits q (tags (old_behind h g q) (freed_behind h g q) counts (q.fits counts fits).0)
 
   -- the two bodies
   pub works_tagged : {T U : Type 0} (a b c : Option Told) (n m k : ℕ) (x : T) (y : U) (count : ℕ) → count ≡ length olds → Between a b TellsNothing
       → Did {T = T} (LeavesCommitted store) (λ _. ReadsOld olds ids store read) a b n m (Ok x)
-      → Works {T = U} (SoundTagged time olds ids read) (λ _. TagsWith time olds ids read last) b c m k (Ok y)
-      → Works {T = ℕ} (TagsSound time store) (λ some. Tags time store last some) a c n k (Ok count)
+      → Works {T = U} (SoundTagged time olds ids read) (λ _. TagsWith time drawn drawn_now olds ids read last) b c m k (Ok y)
+      → Works {T = ℕ} (TagsSound time store) (λ some. Tags time drawn drawn_now store last some) a c n k (Ok count)
   works_tagged {T} {U} a b c n m k x y count is untold p q =
       let both = works_then (LeavesCommitted store) (λ (_ : T). ReadsOld olds ids store read) (SoundTagged time olds ids read)
-      (λ (_ : U). TagsWith time olds ids read last) (TagsSound time store) (λ (_ : U). Tags time store last (length olds)) a b c n m k x (Ok y)
+      (λ (_ : U). TagsWith time drawn drawn_now olds ids read last) (TagsSound time store)
+      (λ (_ : U). Tags time drawn drawn_now store last (length olds)) a b c n m k x (Ok y)
       (λ h g i leaves done r sound. sound_behind h g i leaves done r sound) (λ _ h g i r tags. tags_behind h g i r tags)
       (works_ok (LeavesCommitted store) (λ (_ : T). ReadsOld olds ids store read) (LeavesCommitted store) (λ (_ : T). ReadsOld olds ids store read) a b n m x x
       (λ h g _ e. e) (λ h g e. e) untold p) q in
       record {
         each = both.each;
-        end = between_map a c (λ h g. AllDone h g × Tags time store last (length olds) h g) (λ h g. AllDone h g × Tags time store last count h g)
-            (λ h g e. (e.0, subst (λ (some : ℕ). Tags time store last some h g) (sym is) e.1)) both.end;
+        end = between_map a c (λ h g. AllDone h g × Tags time drawn drawn_now store last (length olds) h g)
+            (λ h g. AllDone h g × Tags time drawn drawn_now store last count h g)
+            (λ h g e. (e.0, subst (λ (some : ℕ). Tags time drawn drawn_now store last some h g) (sym is) e.1)) both.end;
         ends = both.ends;
         cause = both.cause;
       }
 
   pub works_untagged : {T U : Type 0} (a b c : Option Told) (n m k : ℕ) (x : T) (fault : CarryFault) → Between a b TellsNothing
       → Did {T = T} (LeavesCommitted store) (λ _. ReadsOld olds ids store read) a b n m (Ok x)
-      → Works {T = U} (SoundTagged time olds ids read) (λ _. TagsWith time olds ids read last) b c m k (Err fault)
-      → Works {T = ℕ} (TagsSound time store) (λ some. Tags time store last some) a c n k (Err fault)
+      → Works {T = U} (SoundTagged time olds ids read) (λ _. TagsWith time drawn drawn_now olds ids read last) b c m k (Err fault)
+      → Works {T = ℕ} (TagsSound time store) (λ some. Tags time drawn drawn_now store last some) a c n k (Err fault)
   works_untagged {T} {U} a b c n m k x fault untold p q =
       let both = works_then (LeavesCommitted store) (λ (_ : T). ReadsOld olds ids store read) (SoundTagged time olds ids read)
-      (λ (_ : U). TagsWith time olds ids read last) (TagsSound time store) (λ (_ : U) (h : History) (g : History). Unit {0}) a b c n m k x (Err fault)
+      (λ (_ : U). TagsWith time drawn drawn_now olds ids read last) (TagsSound time store) (λ (_ : U) (h : History) (g : History). Unit {0}) a b c n m k x
+      (Err fault)
       (λ h g i leaves done r sound. sound_behind h g i leaves done r sound) (λ _ h g i r tags. tt)
       (works_ok (LeavesCommitted store) (λ (_ : T). ReadsOld olds ids store read) (LeavesCommitted store) (λ (_ : T). ReadsOld olds ids store read) a b n m x x
       (λ h g _ e. e) (λ h g e. e) untold p) q in
@@ -171,11 +177,13 @@ module _ (time : List ℕ) (store read last : Store) (olds : List OldRecord) (id
       (between_both a b (LeavesCommitted store) (λ h g. AllDone h g × ReadsOld olds ids store read h g) p.each p.end) keeps
 
 -- where each record has a tag
-pub works_needless : {T : Type 0} (time : List ℕ) (store read : Store) (olds : List OldRecord) (ids : List (List ℕ)) (a b : Option Told) (n m : ℕ) (x : T)
-    → olds ≡ [] → Between a b TellsNothing → Did {T = T} (LeavesCommitted store) (λ _. ReadsOld olds ids store read) a b n m (Ok x)
-    → Works {T = ℕ} (TagsSound time store) (λ some. Tags time store read some) a b n m (Ok 0)
-works_needless {T} time store read olds ids a b n m x none untold p =
-    works_ok (LeavesCommitted store) (λ (_ : T). ReadsOld olds ids store read) (TagsSound time store) (λ (some : ℕ). Tags time store read some) a b n m x 0
+pub works_needless : {T : Type 0} (time : List ℕ) (drawn drawn_now : Option (List ℕ)) (store read : Store) (olds : List OldRecord)
+    (ids : List (List ℕ)) (a b : Option Told) (n m : ℕ) (x : T) → drawn_now ≡ drawn → olds ≡ [] → Between a b TellsNothing
+    → Did {T = T} (LeavesCommitted store) (λ _. ReadsOld olds ids store read) a b n m (Ok x)
+    → Works {T = ℕ} (TagsSound time store) (λ some. Tags time drawn drawn_now store read some) a b n m (Ok 0)
+works_needless {T} time drawn drawn_now store read olds ids a b n m x undrawn none untold p =
+    works_ok (LeavesCommitted store) (λ (_ : T). ReadsOld olds ids store read) (TagsSound time store)
+    (λ (some : ℕ). Tags time drawn drawn_now store read some) a b n m x 0
     (λ h g _ leaves. leaves_tagged time store h g leaves)
     (λ h g q counts fits.
     inl (record {
@@ -183,6 +191,7 @@ works_needless {T} time store read olds ids a b n m x none untold p =
       reads = q.freed.reads;
       are_read = q.freed.are_read;
       count_is = refl;
+      undrawn = undrawn;
       same = q.same;
     })) untold p
 

@@ -1,5 +1,5 @@
 -- Steps of the body that tags archives: the records without a tag are read, new ones are added, and all is committed under the old names.
-use Rattle.std.specs.Prelude.{◌≡◌, ◌⊎◌, ◌<◌, ℕ, Bool, List, [], ◌∷◌, length, map, Option, IfSome, IsSome}
+use Rattle.std.specs.Prelude.{◌≡◌, ◌⊎◌, ◌<◌, ◌++◌, ℕ, Bool, List, ◌∷◌, length, map, Option, IfSome, IsSome}
 use Rattle.ferry_base.specs.Limits.{content_limit}
 use Rattle.ferry_blob.specs.Blob.{content_id}
 use Rattle.ferry_check.specs.Verify.{IsChunk}
@@ -15,7 +15,8 @@ use Rattle.ferry_manifest.specs.Record.Writing.{archive_text}
 use Rattle.ferry_piece.specs.declared.fault.CarryFault.{CarryFault}
 use Rattle.ferry_piece.specs.declared.fault.CarryFault.TheVariants.{Target, Memory, Record}
 use Rattle.ferry_refs.specs.Deleting.{with_deleted}
-use Rattle.ferry_refs.specs.Tagging.{AreFreed, AreOld, AreRenewals, BringsTexts, IsRenewal, OldRecord, Tags, TagsSound, next_tagged, old_record, with_puts}
+use Rattle.ferry_refs.specs.Tagging.{AreFreed, AreOld, AreRenewals, BringsTexts, DrawsRenewal, DrawsRenewals, OldRecord, Tags, TagsSound, next_tagged}
+use Rattle.ferry_refs.specs.Tagging.{old_record, with_puts}
 use Rattle.ferry_refs.specs.declared.untagged.Untagged.{Untagged}
 use Rattle.ferry_manifest.specs.declared.manifest.ArchiveRef.{ArchiveRef}
 use Rattle.ferry_next.specs.Next.{written_at}
@@ -87,23 +88,33 @@ RefusesRenewal keys archive Memory = Unit {0}
 RefusesRenewal keys archive fault = ⊥
 
 -- Why a record with a tag isn't added: there is no text of it; or its id is live, and its blob breaks a rule; or what the refusal says holds of the files.
-abbrev pub RefusesNewRecord : Keys → ArchiveText → Option Told → CarryFault → Type 0
-RefusesNewRecord keys archive now Record =
+abbrev pub RefusesNewRecord : Keys → ArchiveText → Option (List ℕ) → Option (List ℕ) → Option Told → CarryFault → Type 0
+RefusesNewRecord keys archive drawn drawn_now now Record =
     (salt : List ℕ) × ((length salt ≡ 64) × (content_limit < length (archive_text keys salt archive)))
-RefusesNewRecord keys archive now (Target (Repo (Repos.Blob id fault))) =
-    ((text : List ℕ) × (IsRenewal keys archive text × (id ≡ content_id keys text))) × IfSome now (λ t. BreaksLive (told_files t) keys id fault)
-RefusesNewRecord keys archive now (Target (Repo Repos.Device)) = Unit {0}
-RefusesNewRecord keys archive now (Target (Repo fault)) = ⊥
-RefusesNewRecord keys archive now (Target TooLarge) = ⊥
-RefusesNewRecord keys archive now (Target refusal) = IfSome now (λ t. StopsAt t.history.start (told_files t) keys refusal)
-RefusesNewRecord keys archive now Memory = Unit {0}
-RefusesNewRecord keys archive now fault = ⊥
+RefusesNewRecord keys archive drawn drawn_now now (Target (Repo (Repos.Blob id fault))) =
+    ((text : List ℕ) × (DrawsRenewal keys archive text drawn drawn_now × (id ≡ content_id keys text)))
+    × IfSome now (λ t. BreaksLive (told_files t) keys id fault)
+RefusesNewRecord keys archive drawn drawn_now now (Target (Repo Repos.Device)) = Unit {0}
+RefusesNewRecord keys archive drawn drawn_now now (Target (Repo fault)) = ⊥
+RefusesNewRecord keys archive drawn drawn_now now (Target TooLarge) = ⊥
+RefusesNewRecord keys archive drawn drawn_now now (Target refusal) = IfSome now (λ t. StopsAt t.history.start (told_files t) keys refusal)
+RefusesNewRecord keys archive drawn drawn_now now Memory = Unit {0}
+RefusesNewRecord keys archive drawn drawn_now now fault = ⊥
 
--- One of these records isn't added, so.
-abbrev pub RefusesOneOf : Keys → List OldRecord → Option Told → CarryFault → Type 0
-RefusesOneOf keys [] now Memory = Unit {0}
-RefusesOneOf keys [] now fault = ⊥
-RefusesOneOf keys (old ∷ olds) now fault = RefusesNewRecord keys old.archive now fault ⊎ RefusesOneOf keys olds now fault
+-- One of these records isn't added, so, behind those before it.
+pub record RefusesOneOf (keys : Keys) (olds : List OldRecord) (drawn drawn_now : Option (List ℕ)) (now : Option Told) (fault : CarryFault) : Type 0 where
+  pub done : List OldRecord
+  pub old : OldRecord
+  pub rest : List OldRecord
+  pub split : olds ≡ done ++ old ∷ rest
+  pub texts : List (List ℕ)
+  pub middle : Option (List ℕ)
+  pub drew : DrawsRenewals keys done texts drawn middle
+  pub refused : RefusesNewRecord keys old.archive middle drawn_now now fault
+
+-- The same, or memory was refused.
+abbrev pub RefusesSome : Keys → List OldRecord → Option (List ℕ) → Option (List ℕ) → Option Told → CarryFault → Type 0
+RefusesSome keys olds drawn drawn_now now fault = (fault ≡ Memory) ⊎ RefusesOneOf keys olds drawn drawn_now now fault
 
 -- ---- what is committed
 
@@ -144,15 +155,16 @@ abbrev pub SoundTagged : List ℕ → List OldRecord → List (List ℕ) → Sto
 SoundTagged time olds ids store before now = AreOld (files_now before) (repo_view store.repo) (repo_view store.repo).manifest.archives olds
     → AreFreed (files_now before) (repo_view store.repo) ids → TagsSound time store before now
 
-abbrev pub TagsWith : List ℕ → List OldRecord → List (List ℕ) → Store → Store → History → History → Type 0
-TagsWith time olds ids store store_now before now = AreOld (files_now before) (repo_view store.repo) (repo_view store.repo).manifest.archives olds
-    → AreFreed (files_now before) (repo_view store.repo) ids → Tags time store store_now (length olds) before now
+abbrev pub TagsWith : List ℕ → Option (List ℕ) → Option (List ℕ) → List OldRecord → List (List ℕ) → Store → Store → History → History → Type 0
+TagsWith time drawn drawn_now olds ids store store_now before now = AreOld (files_now before) (repo_view store.repo)
+    (repo_view store.repo).manifest.archives olds
+    → AreFreed (files_now before) (repo_view store.repo) ids → Tags time drawn drawn_now store store_now (length olds) before now
 
 -- Why they aren't tagged: one of them isn't added, or all isn't committed: a manifest with tagged records is too large with some salt of 64 bytes, or the
 -- target or memory refuses.
-abbrev pub RefusesWriting : RepoState → List ℕ → List OldRecord → Option Told → CarryFault → Type 0
-RefusesWriting repo time olds now (Target TooLarge) = (texts : List (List ℕ)) × (AreRenewals repo.keys olds texts
+abbrev pub RefusesWriting : RepoState → List ℕ → List OldRecord → Option (List ℕ) → Option (List ℕ) → Option Told → CarryFault → Type 0
+RefusesWriting repo time olds drawn drawn_now now (Target TooLarge) = (texts : List (List ℕ)) × (AreRenewals repo.keys olds texts
     × ((salt : List ℕ) × ((length salt ≡ 64) × (content_limit < length (manifest_text repo.keys salt (next_tagged repo.keys repo.manifest olds texts time))))))
-RefusesWriting repo time olds now (Target (Repo fault)) = RefusesOneOf repo.keys olds now (Target (Repo fault))
-RefusesWriting repo time olds now (Target refusal) = IfSome now (λ t. StopsAt t.history.start (told_files t) repo.keys refusal)
-RefusesWriting repo time olds now fault = RefusesOneOf repo.keys olds now fault
+RefusesWriting repo time olds drawn drawn_now now (Target (Repo fault)) = RefusesSome repo.keys olds drawn drawn_now now (Target (Repo fault))
+RefusesWriting repo time olds drawn drawn_now now (Target refusal) = IfSome now (λ t. StopsAt t.history.start (told_files t) repo.keys refusal)
+RefusesWriting repo time olds drawn drawn_now now fault = RefusesSome repo.keys olds drawn drawn_now now fault

@@ -87,6 +87,29 @@ AreRenewals keys [] (text ∷ texts) = ⊥
 AreRenewals keys (old ∷ olds) [] = ⊥
 AreRenewals keys (old ∷ olds) (text ∷ texts) = IsRenewal keys old.archive text × AreRenewals keys olds texts
 
+-- the salts of these texts, one behind the other
+abbrev pub salts_in : (keys : Keys) (olds : List OldRecord) (texts : List (List ℕ)) → AreRenewals keys olds texts → List ℕ
+salts_in keys [] [] all = []
+salts_in keys [] (text ∷ texts) all = []
+salts_in keys (old ∷ olds) [] all = []
+salts_in keys (old ∷ olds) (text ∷ texts) all = all.0.salt ++ salts_in keys olds texts all.1
+
+-- A text is that of the record with a tag, whose salt was drawn from a source of random bytes.
+abbrev pub DrawsRenewal : Keys → ArchiveText → List ℕ → Option (List ℕ) → Option (List ℕ) → Type 0
+DrawsRenewal keys archive text drawn drawn_now =
+    (renewal : IsRenewal keys archive text) × (drawn_now ≡ option_map (λ (bytes : List ℕ). bytes ++ renewal.salt) drawn)
+
+-- These are the texts of these records with their tags, whose salts were drawn, one behind the other.
+abbrev pub DrawsRenewals : Keys → List OldRecord → List (List ℕ) → Option (List ℕ) → Option (List ℕ) → Type 0
+DrawsRenewals keys olds texts drawn drawn_now = (renewals : AreRenewals keys olds texts)
+    × (drawn_now ≡ option_map (λ (bytes : List ℕ). bytes ++ salts_in keys olds texts renewals) drawn)
+
+-- The salts of these texts were drawn, and 64 bytes behind them for the manifest, and nothing else; where there are no texts, nothing was drawn.
+abbrev pub DrawsTags : (keys : Keys) (olds : List OldRecord) (texts : List (List ℕ)) → AreRenewals keys olds texts → Option (List ℕ) → Option (List ℕ) → Type 0
+DrawsTags keys [] texts all drawn drawn_now = drawn_now ≡ drawn
+DrawsTags keys (old ∷ olds) texts all drawn drawn_now = (salt : List ℕ) × ((length salt ≡ 64)
+    × (drawn_now ≡ option_map (λ (bytes : List ℕ). bytes ++ (salts_in keys (old ∷ olds) texts all ++ salt)) drawn))
+
 -- an archive with another record
 abbrev pub renewed_entry : ArchiveRef → List ℕ → ArchiveRef
 renewed_entry named id = record { name = named.name; id = id; time = named.time }
@@ -206,15 +229,17 @@ abbrev pub TagsSound : List ℕ → Store → History → History → Type 0
 TagsSound time store before now = (counts : Bool) (fits : StoreFits counts store before)
     → Moments (IsSound (ShowsRenewed (files_now before) (repo_view store.repo) time fits.written) counts) before now
 
--- So many records have got their tags, at least one, and a manifest with them is committed, where a repository was read from these files.
-pub record HasTagged (counts : Bool) (time : List ℕ) (files : Files) (repo : RepoState) (written : Written) (store_now : Store) (count : ℕ) (now : History)
-    : Type 0 where
+-- So many records have got their tags, at least one, with salts that were drawn, and a manifest with them is committed, where a repository was read from
+-- these files.
+pub record HasTagged (counts : Bool) (time : List ℕ) (drawn drawn_now : Option (List ℕ)) (files : Files) (repo : RepoState) (written : Written)
+    (store_now : Store) (count : ℕ) (now : History) : Type 0 where
   pub olds : List OldRecord
   pub are_old : AreOld files repo repo.manifest.archives olds
   pub some : olds ≢ []
   pub count_is : count ≡ length olds
   pub texts : List (List ℕ)
   pub renewals : AreRenewals repo.keys olds texts
+  pub drew : DrawsTags repo.keys olds texts renewals drawn drawn_now
   pub puts : List LogEntry
   pub brings : BringsTexts repo.keys texts written (with_puts written puts)
   pub ids : List (List ℕ)
@@ -225,17 +250,19 @@ pub record HasTagged (counts : Bool) (time : List ℕ) (files : Files) (repo : R
   pub keys : (repo_view store_now.repo).keys ≡ repo.keys
   pub manifest : (repo_view store_now.repo).manifest ≡ next_tagged repo.keys repo.manifest olds texts time
 
--- Every record has a tag, and nothing was done.
-pub record NeedsNoTag (repo : RepoState) (count : ℕ) (before now : History) : Type 0 where
+-- Every record has a tag, and nothing was done or drawn.
+pub record NeedsNoTag (drawn drawn_now : Option (List ℕ)) (repo : RepoState) (count : ℕ) (before now : History) : Type 0 where
   pub none : AreOld (files_now before) repo repo.manifest.archives []
   pub reads : List ArchiveRead
   pub are_read : AreRead (files_now before) repo repo.manifest.archives reads
   pub count_is : count ≡ 0
+  pub undrawn : drawn_now ≡ drawn
   pub same : now ≡ before
 
-abbrev pub Tags : List ℕ → Store → Store → ℕ → History → History → Type 0
-Tags time store store_now count before now = (counts : Bool) (fits : StoreFits counts store before) → NeedsNoTag (repo_view store.repo) count before now
-    ⊎ HasTagged counts time (files_now before) (repo_view store.repo) fits.written store_now count now
+abbrev pub Tags : List ℕ → Option (List ℕ) → Option (List ℕ) → Store → Store → ℕ → History → History → Type 0
+Tags time drawn drawn_now store store_now count before now = (counts : Bool) (fits : StoreFits counts store before)
+    → NeedsNoTag drawn drawn_now (repo_view store.repo) count before now
+    ⊎ HasTagged counts time drawn drawn_now (files_now before) (repo_view store.repo) fits.written store_now count now
 
 -- ---- what is left
 
@@ -281,20 +308,28 @@ HasLargeTagged files repo time = (olds : List OldRecord) × (AreOld files repo r
     × (AreRenewals repo.keys olds texts × ((salt : List ℕ) × ((length salt ≡ 64)
     × (content_limit < length (manifest_text repo.keys salt (next_tagged repo.keys repo.manifest olds texts time))))))))
 
--- An id is that of the record with a tag, of an archive whose record has none.
-abbrev pub IsNewId : Files → RepoState → List ℕ → Type 0
-IsNewId files repo id = (named : ArchiveRef) × ((archive : ArchiveText) × (ReadsRecord files repo named archive × ((archive.tagged ≡ false)
-    × ((text : List ℕ) × (IsRenewal repo.keys archive text × (id ≡ content_id repo.keys text))))))
+-- An id is that of the record with a tag, of an archive whose record has none. Its salt was drawn last, behind those of the records before it.
+pub record IsNewId (files : Files) (repo : RepoState) (drawn drawn_now : Option (List ℕ)) (id : List ℕ) : Type 0 where
+  pub done : List OldRecord
+  pub old : OldRecord
+  pub rest : List OldRecord
+  pub are_old : AreOld files repo repo.manifest.archives (done ++ old ∷ rest)
+  pub texts : List (List ℕ)
+  pub middle : Option (List ℕ)
+  pub drew : DrawsRenewals repo.keys done texts drawn middle
+  pub text : List ℕ
+  pub draws : DrawsRenewal repo.keys old.archive text middle drawn_now
+  pub id_is : id ≡ content_id repo.keys text
 
 -- Why archives aren't tagged: an archive's record or stream doesn't read; or a chunk is live under the id of a new record, and its blob breaks a rule; or a new
 -- record is too large, or the manifest with them; or what a refusal of the target says holds of its files as they are then.
-abbrev pub RefusesTagging : Files → RepoState → List ℕ → Option Told → CarryFault → Type 0
-RefusesTagging files repo time now (Target (Repo Repos.Device)) = Unit {0}
-RefusesTagging files repo time now (Target (Repo (Repos.Blob id fault))) = RefusesRefs files repo (Repos.Blob id fault)
-    ⊎ (IsNewId files repo id × IfSome now (λ t. BreaksLive (told_files t) repo.keys id fault))
-RefusesTagging files repo time now (Target (Repo fault)) = IsOfFiles fault × RefusesRefs files repo fault
-RefusesTagging files repo time now (Target TooLarge) = HasLargeTagged files repo time
-RefusesTagging files repo time now (Target refusal) = IfSome now (λ t. StopsAt t.history.start (told_files t) repo.keys refusal)
-RefusesTagging files repo time now Record = HasLargeRecord files repo
-RefusesTagging files repo time now Memory = Unit {0}
-RefusesTagging files repo time now fault = ⊥
+abbrev pub RefusesTagging : Files → RepoState → List ℕ → Option (List ℕ) → Option (List ℕ) → Option Told → CarryFault → Type 0
+RefusesTagging files repo time drawn drawn_now now (Target (Repo Repos.Device)) = Unit {0}
+RefusesTagging files repo time drawn drawn_now now (Target (Repo (Repos.Blob id fault))) = RefusesRefs files repo (Repos.Blob id fault)
+    ⊎ (IsNewId files repo drawn drawn_now id × IfSome now (λ t. BreaksLive (told_files t) repo.keys id fault))
+RefusesTagging files repo time drawn drawn_now now (Target (Repo fault)) = IsOfFiles fault × RefusesRefs files repo fault
+RefusesTagging files repo time drawn drawn_now now (Target TooLarge) = HasLargeTagged files repo time
+RefusesTagging files repo time drawn drawn_now now (Target refusal) = IfSome now (λ t. StopsAt t.history.start (told_files t) repo.keys refusal)
+RefusesTagging files repo time drawn drawn_now now Record = HasLargeRecord files repo
+RefusesTagging files repo time drawn drawn_now now Memory = Unit {0}
+RefusesTagging files repo time drawn drawn_now now fault = ⊥

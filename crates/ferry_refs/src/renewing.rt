@@ -11,8 +11,8 @@ ghost use Rattle.ferry_manifest.specs.Record.Writing.{IsPackableArchive};
 ghost use Rattle.ferry_piece.specs.Fault.{random_failed, shelf_failed};
 ghost use Rattle.ferry_piece.specs.Work.{Works};
 ghost use Rattle.ferry_refs.specs.Deleting.{LeavesCommitted};
-ghost use Rattle.ferry_refs.specs.TagSteps.{AddsTexts, IsNamedIn, KeepsRepo, RefusesNewRecord, RefusesOneOf, RefusesRenewal, olds_view};
-ghost use Rattle.ferry_refs.specs.Tagging.{AreRenewals, IsRenewal, ids_under, renewed, renewed_entries, renewed_entry, with_renewed};
+ghost use Rattle.ferry_refs.specs.TagSteps.{AddsTexts, IsNamedIn, KeepsRepo, RefusesNewRecord, RefusesRenewal, RefusesSome, olds_view};
+ghost use Rattle.ferry_refs.specs.Tagging.{DrawsRenewal, DrawsRenewals, IsRenewal, ids_under, renewed, renewed_entries, renewed_entry, with_renewed};
 ghost use Rattle.ferry_repo.specs.Opening.{repo_view};
 ghost use Rattle.ferry_stops.specs.Tells.{TellsNothing};
 ghost use Rattle.ferry_store.specs.Commit.{accepted_in};
@@ -41,15 +41,15 @@ pub(crate) fn add_records<D: Depot, E: Entropy>(
     requires fits { IfSome (D.told depot.old) (λ t. StoreFits false store.old t.history) }
     ensures added { (texts : List (List ℕ)) × (Works (LeavesCommitted store.old) (λ _. AddsTexts texts store.old store.new)
         (D.told depot.old) (D.told depot.new) (D.faults depot.old) (D.faults depot.new) result
-        × IfOk result (λ ids. AreRenewals (repo_view store.old.repo).keys (olds_view untagged.now) texts
+        × IfOk result (λ ids. DrawsRenewals (repo_view store.old.repo).keys (olds_view untagged.now) texts (E.drawn entropy.old) (E.drawn entropy.new)
         × (ids.items ≡ ids_under (repo_view store.old.repo).keys texts))) }
     ensures untold { Between (D.told depot.old) (D.told depot.new) TellsNothing }
     ensures repo { OnOk result (KeepsRepo (repo_view store.old.repo) (repo_view store.new.repo)) }
     ensures accepted { OnOk result (store.new.accepted ≡ store.old.accepted) }
     ensures unspent { OnOk result (IsUnspent store.new) }
     ensures fits { OnOk result (IfSome (D.told depot.new) (λ t. StoreFits false store.new t.history)) }
-    ensures refused { IfErr result (λ fault. IfSome (D.told depot.old) (λ _. RefusesOneOf (repo_view store.old.repo).keys (olds_view untagged.now)
-        (D.told depot.new) fault)) }
+    ensures refused { IfErr result (λ fault. IfSome (D.told depot.old) (λ _. RefusesSome (repo_view store.old.repo).keys (olds_view untagged.now)
+        (E.drawn entropy.old) (E.drawn entropy.new) (D.told depot.new) fault)) }
     ensures shelf { IfErr result (λ fault. shelf_failed fault ≡ false) }
     ensures entropy { HasCause random_failed (E.faults entropy.old) (E.faults entropy.new) result }
 {
@@ -75,7 +75,7 @@ fn add_record<D: Depot, E: Entropy>(
     requires fits { IfSome (D.told depot.old) (λ t. StoreFits false store.old t.history) }
     ensures added { (text : List ℕ) × (Works (LeavesCommitted store.old) (λ _. AddsTexts (text ∷ []) store.old store.new)
         (D.told depot.old) (D.told depot.new) (D.faults depot.old) (D.faults depot.new) result
-        × IfOk result (λ id. IsRenewal (repo_view store.old.repo).keys (archive_view archive.now) text
+        × IfOk result (λ id. DrawsRenewal (repo_view store.old.repo).keys (archive_view archive.now) text (E.drawn entropy.old) (E.drawn entropy.new)
         × (id ≡ content_id (repo_view store.old.repo).keys text))) }
     ensures untold { Between (D.told depot.old) (D.told depot.new) TellsNothing }
     ensures repo { OnOk result (KeepsRepo (repo_view store.old.repo) (repo_view store.new.repo)) }
@@ -83,7 +83,7 @@ fn add_record<D: Depot, E: Entropy>(
     ensures unspent { OnOk result (IsUnspent store.new) }
     ensures fits { OnOk result (IfSome (D.told depot.new) (λ t. StoreFits false store.new t.history)) }
     ensures refused { IfErr result (λ fault. IfSome (D.told depot.old) (λ _. RefusesNewRecord (repo_view store.old.repo).keys (archive_view archive.now)
-        (D.told depot.new) fault)) }
+        (E.drawn entropy.old) (E.drawn entropy.new) (D.told depot.new) fault)) }
     ensures shelf { IfErr result (λ fault. shelf_failed fault ≡ false) }
     ensures entropy { HasCause random_failed (E.faults entropy.old) (E.faults entropy.new) result }
 {
@@ -101,7 +101,7 @@ fn tagged_text<E: Entropy>(
     archive: &Archive,
 ) -> Result<Vec<u8>, CarryFault>
     requires packable { IsPackableArchive (archive_view archive.now) }
-    ensures renewal { IfOk result (λ text. IsRenewal keys.now (archive_view archive.now) text.items) }
+    ensures renewal { IfOk result (λ text. DrawsRenewal keys.now (archive_view archive.now) text.items (E.drawn entropy.old) (E.drawn entropy.new)) }
     ensures small { IfOk result (λ text. length text.items ≤ content_limit) }
     ensures refused { IfErr result (RefusesRenewal keys.now (archive_view archive.now)) }
     ensures entropy { HasCause random_failed (E.faults entropy.old) (E.faults entropy.new) result }
@@ -119,7 +119,7 @@ fn salted_text(
     salt: &[u8; 64],
 ) -> Result<Vec<u8>, CarryFault>
     requires packable { IsPackableArchive (archive_view archive.now) }
-    ensures renewal { IfOk result (λ text. IsRenewal keys.now (archive_view archive.now) text.items) }
+    ensures renewal { IfOk result (λ text. (renewal : IsRenewal keys.now (archive_view archive.now) text.items) × (renewal.salt ≡ salt.now)) }
     ensures small { IfOk result (λ text. length text.items ≤ content_limit) }
     ensures refused { IfErr result (RefusesRenewal keys.now (archive_view archive.now)) }
     ensures drawn { IfErr result (λ fault. random_failed fault ≡ false) }

@@ -1,5 +1,5 @@
 //! Archives whose records get an authentication tag.
-ghost use Rattle.std.specs.Prelude.{◌≡◌, ◌≢◌, ◌<◌, false, length, IfOk, IfErr, IfSome, OnOk};
+ghost use Rattle.std.specs.Prelude.{◌≡◌, ◌≢◌, ◌<◌, ◌++◌, ℕ, List, false, length, option_map, IfOk, IfErr, IfSome, OnOk};
 ghost use Rattle.std.specs.List.{AllByRecursion};
 ghost use Rattle.std.specs.Option.{option_copied};
 ghost use Rattle.ferry_check.specs.Verify.{IsChunk};
@@ -56,11 +56,12 @@ pub fn tag_archives<D: Depot, E: Entropy>(
     requires packable { IsPackable (accepted_in store.old) }
     requires settled { IsSettled store.old }
     ensures works { Works (TagsSound (time_of (option_copied timestamp.entry) (repo_view store.old.repo).manifest) store.old)
-        (λ count. Tags (time_of (option_copied timestamp.entry) (repo_view store.old.repo).manifest) store.old store.new count)
+        (λ count. Tags (time_of (option_copied timestamp.entry) (repo_view store.old.repo).manifest) (E.drawn entropy.old) (E.drawn entropy.new)
+        store.old store.new count)
         (D.told depot.old) (D.told depot.new) (D.faults depot.old) (D.faults depot.new) result }
     ensures untold { Between (D.told depot.old) (D.told depot.new) TellsNothing }
     ensures refused { IfErr result (λ fault. IfSome (D.told depot.old) (λ t. RefusesTagging (told_files t) (repo_view store.old.repo)
-        (time_of (option_copied timestamp.entry) (repo_view store.old.repo).manifest) (D.told depot.new) fault)) }
+        (time_of (option_copied timestamp.entry) (repo_view store.old.repo).manifest) (E.drawn entropy.old) (E.drawn entropy.new) (D.told depot.new) fault)) }
     // Where no device failed and memory wasn't refused, nothing is committed.
     ensures keeps { IfErr result (λ fault. IsOfWork fault → Between (D.told depot.old) (D.told depot.new) (LeavesCommitted store.old)) }
     ensures shelf { IfErr result (λ fault. shelf_failed fault ≡ false) }
@@ -117,11 +118,11 @@ fn write_tagged<D: Depot, E: Entropy>(
     requires named { AllByRecursion (λ u. IsNamedIn (repo_view store.old.repo).manifest u.named) old.now.untagged.items }
     requires archives { AllByRecursion (λ u. IsPackableArchive (archive_view u.archive)) old.now.untagged.items }
     ensures works { Works (SoundTagged time.now (olds_view old.now.untagged.items) old.now.freed.items store.old)
-        (λ _. TagsWith time.now (olds_view old.now.untagged.items) old.now.freed.items store.old store.new)
+        (λ _. TagsWith time.now (E.drawn entropy.old) (E.drawn entropy.new) (olds_view old.now.untagged.items) old.now.freed.items store.old store.new)
         (D.told depot.old) (D.told depot.new) (D.faults depot.old) (D.faults depot.new) result }
     ensures untold { Between (D.told depot.old) (D.told depot.new) TellsNothing }
     ensures refused { IfErr result (λ fault. IfSome (D.told depot.old) (λ _. RefusesWriting (repo_view store.old.repo) time.now
-        (olds_view old.now.untagged.items) (D.told depot.new) fault)) }
+        (olds_view old.now.untagged.items) (E.drawn entropy.old) (E.drawn entropy.new) (D.told depot.new) fault)) }
     ensures keeps { IfErr result (λ fault. IsOfWork fault → Between (D.told depot.old) (D.told depot.new) (LeavesCommitted store.old)) }
     ensures shelf { IfErr result (λ fault. shelf_failed fault ≡ false) }
     ensures entropy { HasCause random_failed (E.faults entropy.old) (E.faults entropy.new) result }
@@ -147,6 +148,8 @@ fn free_and_commit<D: Depot, E: Entropy>(
     ensures did { Did (FreesSound time.now ids.now store.old) (λ _. Frees ids.now store.old store.new)
         (D.told depot.old) (D.told depot.new) (D.faults depot.old) (D.faults depot.new) result }
     ensures untold { Between (D.told depot.old) (D.told depot.new) TellsNothing }
+    ensures drawn { OnOk result ((salt : List ℕ) × ((length salt ≡ 64)
+        × (E.drawn entropy.new ≡ option_map (λ d. d ++ salt) (E.drawn entropy.old)))) }
     ensures manifest { OnOk result (repo_view store.new.repo ≡ with_manifest (repo_view store.old.repo) (written_at (accepted_in store.old) time.now)) }
     ensures refused { IfErr result (RefusesFreeing (repo_view store.old.repo).keys (written_at (accepted_in store.old) time.now)) }
     ensures stops { IfErr result (λ refusal. IfSome (D.told depot.new) (λ t. StopsAt t.history.start (told_files t) (repo_view store.old.repo).keys refusal)) }

@@ -41,26 +41,27 @@ use Rattle.ferry_check.specs.Report.{ArchiveRead, AreRead}
 
 pub unopened_refused : (asked : Tagging) (before now : Option Told) (refusal : StoreRefusal)
     → IfSome before (λ t. RefusesOpen asked.secret (told_files t) refusal)
-    → RefusesChange asked.secret (RefusesTags asked.timestamp now) before (target_fault refusal)
+    → RefusesChange asked.secret (RefusesTags asked.timestamp asked.drawn asked.drawn_now now) before (target_fault refusal)
 unopened_refused asked None now refusal refused = tt
 unopened_refused asked (Some t) now refusal refused = λ begun. inl (refusal, (refl, refused))
 
 -- a tagging that was refused behind the opening was so over the files as they were before
 pub untagged_refused : (asked : Tagging) (store : Store) (a b c : Option Told) (fault : CarryFault)
     → IfSome a (λ t. OpensFilesTo (told_files t) asked.secret (repo_view store.repo)) → Between a b (λ h g. AllDone h g × OpenFits store h g)
-    → IfSome b (λ t. RefusesTagging (told_files t) (repo_view store.repo) (time_of asked.timestamp (repo_view store.repo).manifest) c fault)
-    → RefusesChange asked.secret (RefusesTags asked.timestamp c) a fault
+    → IfSome b (λ t. RefusesTagging (told_files t) (repo_view store.repo) (time_of asked.timestamp
+    (repo_view store.repo).manifest) asked.drawn asked.drawn_now c fault)
+    → RefusesChange asked.secret (RefusesTags asked.timestamp asked.drawn asked.drawn_now c) a fault
 untagged_refused asked store None b c fault opens opened refused = tt
 untagged_refused asked store (Some t) b c fault opens opened refused = λ begun.
     let repo = repo_view store.repo in
     let time = time_of asked.timestamp repo.manifest in
     let o : OpensFound false store t.history opened.0.history = opened.2.1 false begun (λ e. absurd (let no : ⊥ = cc in no)) in
-    let refused_there : RefusesTagging (files_now opened.0.history) repo time c fault =
-    subst (λ (x : Option Told). IfSome x (λ u. RefusesTagging (told_files u) repo time c fault)) opened.1 refused in
+    let refused_there : RefusesTagging (files_now opened.0.history) repo time asked.drawn asked.drawn_now c fault =
+    subst (λ (x : Option Told). IfSome x (λ u. RefusesTagging (told_files u) repo time asked.drawn asked.drawn_now c fault)) opened.1 refused in
     inr (record {
       repo = repo;
       opens = opens;
-      holds = tag_refused_same (files_now opened.0.history) (told_files t) repo time c fault
+      holds = tag_refused_same (files_now opened.0.history) (told_files t) repo time asked.drawn asked.drawn_now c fault
           (lie_before asked store t.history opened.0.history opens false o) refused_there;
     })
 
@@ -70,7 +71,7 @@ told_stops None repo = tt
 told_stops (Some t) repo = tt
 
 telling_refuses : (asked : Tagging) (start : Files) (now : Option Told) (repo : RepoState) (refusal : StoreRefusal) → RefusesTelling refusal
-    → RefusesTagging start repo (time_of asked.timestamp repo.manifest) now (target_fault refusal)
+    → RefusesTagging start repo (time_of asked.timestamp repo.manifest) asked.drawn asked.drawn_now now (target_fault refusal)
 telling_refuses asked start now repo (Stores.Write Writes.Device) refused = told_stops now repo
 telling_refuses asked start now repo (Stores.Write Writes.Memory) refused = absurd refused
 telling_refuses asked start now repo (Stores.Write Writes.Numbers) refused = absurd refused
@@ -82,8 +83,8 @@ telling_refuses asked start now repo Stores.TooLarge refused = absurd refused
 telling_refuses asked start now repo Stores.Entropy refused = absurd refused
 
 pub untold_refused : (asked : Tagging) (count : ℕ) (a b c : Option Told) (refusal : StoreRefusal)
-    → Between a b (λ h g. AllDone h g × GetsTags asked.secret asked.timestamp count h g) → RefusesTelling refusal
-    → RefusesChange asked.secret (RefusesTags asked.timestamp c) a (target_fault refusal)
+    → Between a b (λ h g. AllDone h g × GetsTags asked.secret asked.timestamp asked.drawn asked.drawn_now count h g) → RefusesTelling refusal
+    → RefusesChange asked.secret (RefusesTags asked.timestamp asked.drawn asked.drawn_now c) a (target_fault refusal)
 untold_refused asked count None b c refusal tagged refused = tt
 untold_refused asked count (Some t) b c refusal tagged refused = λ begun.
     let tags = tagged.2.1 begun in
@@ -111,7 +112,8 @@ untold_kept Stores.Entropy refused work = refused
 module _ (asked : Tagging) (start : Files) (now : Told) (ready : OpensNumbered asked.secret start)
     (reads : List ArchiveRead) (are_read : AreRead start ready.repo ready.repo.manifest.archives reads) where
   opened_ends : (fault : RepoFault) → RefusesRepo start asked.secret fault
-      → IsDoneUnless (LimitsTagging asked.timestamp ready.repo start now.history.start (told_files now)) (BreaksNew start ready.repo (told_files now))
+      → IsDoneUnless (LimitsTagging asked.timestamp ready.repo start now.history.start (told_files now))
+      (BreaksNew start ready.repo asked.drawn asked.drawn_now (told_files now))
       (target_status fault)
   opened_ends Repos.NoCommit refused = absurd (repo_apart start asked.secret ready.repo Repos.NoCommit ready.opens tt refused)
   opened_ends (Repos.Damaged segment at) refused = absurd (repo_apart start asked.secret ready.repo (Repos.Damaged segment at) ready.opens tt refused)
@@ -130,7 +132,8 @@ module _ (asked : Tagging) (start : Files) (now : Told) (ready : OpensNumbered a
   opened_ends Repos.Memory refused = tt
 
   begun_ends : (refusal : StoreRefusal) → RefusesOpen asked.secret start refusal
-      → IsDoneUnless (LimitsTagging asked.timestamp ready.repo start now.history.start (told_files now)) (BreaksNew start ready.repo (told_files now))
+      → IsDoneUnless (LimitsTagging asked.timestamp ready.repo start now.history.start (told_files now))
+      (BreaksNew start ready.repo asked.drawn asked.drawn_now (told_files now))
       (carry_status (target_fault refusal))
   begun_ends (Stores.Repo fault) refused = opened_ends fault refused
   begun_ends (Stores.Write Writes.Device) refused = tt
@@ -153,11 +156,12 @@ module _ (asked : Tagging) (start : Files) (now : Told) (ready : OpensNumbered a
       refs_apart start ready.repo [] _ fault (record { reads = reads; are_read = are_read; count_is = refl }) of refused
 
   abbrev Refuses : CarryFault → Type 0
-  Refuses fault = RefusesTagging start ready.repo (time_of asked.timestamp ready.repo.manifest) (Some now) fault
+  Refuses fault = RefusesTagging start ready.repo (time_of asked.timestamp ready.repo.manifest) asked.drawn asked.drawn_now (Some now) fault
 
   abbrev Ends : CarryFault → Type 0
   Ends fault =
-      IsDoneUnless (LimitsTagging asked.timestamp ready.repo start now.history.start (told_files now)) (BreaksNew start ready.repo (told_files now))
+      IsDoneUnless (LimitsTagging asked.timestamp ready.repo start now.history.start (told_files now))
+      (BreaksNew start ready.repo asked.drawn asked.drawn_now (told_files now))
       (carry_status fault)
 
   tagging_read : (fault : RepoFault) → IsOfFiles fault × RefusesRefs start ready.repo fault → ⊥
@@ -201,29 +205,31 @@ module _ (asked : Tagging) (start : Files) (now : Told) (ready : OpensNumbered a
 
   refused_ends : (fault : CarryFault)
       → ((refusal : StoreRefusal) × ((fault ≡ target_fault refusal) × RefusesOpen asked.secret start refusal)) ⊎ OpensWith asked.secret
-      (λ files repo. RefusesTags asked.timestamp (Some now) files repo fault) start
-      → IsDoneUnless (LimitsTagging asked.timestamp ready.repo start now.history.start (told_files now)) (BreaksNew start ready.repo (told_files now))
+      (λ files repo. RefusesTags asked.timestamp asked.drawn asked.drawn_now (Some now) files repo fault) start
+      → IsDoneUnless (LimitsTagging asked.timestamp ready.repo start now.history.start (told_files now))
+      (BreaksNew start ready.repo asked.drawn asked.drawn_now (told_files now))
       (carry_status fault)
   refused_ends fault (inl refused) =
       subst (λ (f : CarryFault). IsDoneUnless (LimitsTagging asked.timestamp ready.repo start now.history.start (told_files now))
-      (BreaksNew start ready.repo (told_files now)) (carry_status f)) (sym refused.1.0)
+      (BreaksNew start ready.repo asked.drawn asked.drawn_now (told_files now)) (carry_status f)) (sym refused.1.0)
       (begun_ends refused.0 refused.1.1)
   refused_ends fault (inr refused) =
       tagging_ends fault
-      (subst (λ (r : RepoState). RefusesTagging start r (time_of asked.timestamp r.manifest) (Some now) fault)
+      (subst (λ (r : RepoState). RefusesTagging start r (time_of asked.timestamp r.manifest) asked.drawn asked.drawn_now (Some now) fault)
       (one_repo start asked.secret refused.repo ready.repo refused.opens ready.opens) refused.holds)
 
 pub tags_done : (asked : Tagging) (before now : Option Told) (status : Status)
-    → (status ≡ Statuses.Done) ⊎ IsRefusedBy carry_status (RefusesChange asked.secret (RefusesTags asked.timestamp now) before) status
-    → TagsDone asked.secret asked.timestamp before now status
+    → (status ≡ Statuses.Done) ⊎ IsRefusedBy carry_status (RefusesChange asked.secret
+    (RefusesTags asked.timestamp asked.drawn asked.drawn_now now) before) status
+    → TagsDone asked.secret asked.timestamp asked.drawn asked.drawn_now before now status
 tags_done asked None now status end = tt
 tags_done asked (Some b) None status end = tt
 tags_done asked (Some b) (Some t) status (inl done) = λ begun ready reads are_read.
     subst (IsDoneUnless (LimitsTagging asked.timestamp ready.repo (told_files b) t.history.start (told_files t))
-    (BreaksNew (told_files b) ready.repo (told_files t)))
+    (BreaksNew (told_files b) ready.repo asked.drawn asked.drawn_now (told_files t)))
     (sym done) tt
 tags_done asked (Some b) (Some t) status (inr refused) = λ begun ready reads are_read.
     subst (IsDoneUnless (LimitsTagging asked.timestamp ready.repo (told_files b) t.history.start (told_files t))
-    (BreaksNew (told_files b) ready.repo (told_files t)))
+    (BreaksNew (told_files b) ready.repo asked.drawn asked.drawn_now (told_files t)))
     (sym refused.status_is)
     (refused_ends asked (told_files b) t ready reads are_read refused.fault (refused.refuses begun))

@@ -19,9 +19,9 @@ use Rattle.ferry_refs.proofs.TagSameLemmas.{freed_same, old_same}
 use Rattle.ferry_refs.proofs.TaggingLemmas.{no_items}
 use Rattle.ferry_check.specs.Report.{ArchiveRead}
 use Rattle.ferry_refs.proofs.NeedlessLemmas.{needless_left}
-use Rattle.ferry_refs.proofs.TaggedLemmas.{standing_left, tagged_left}
+use Rattle.ferry_refs.proofs.TaggedLemmas.{standing_left, tagged_with}
 use Rattle.ferry_refs.specs.Deleting.{LeavesCommitted, time_of, with_deleted}
-use Rattle.ferry_refs.specs.Tagging.{BringsTexts, HasTagged as HasWritten, NeedsNoTag, ShowsTagged, Tags, TagsSound, next_tagged, with_puts}
+use Rattle.ferry_refs.specs.Tagging.{BringsTexts, DrawsTags, HasTagged as HasWritten, NeedsNoTag, ShowsTagged, Tags, TagsSound, next_tagged, with_puts}
 use Rattle.ferry_repo.specs.Opening.{OpensFilesTo, repo_view}
 use Rattle.ferry_run_tag.proofs.ShowLemmas.{LeavesEach, TagEach, Tagging, all_left, each_opened, each_tagged, each_told, leaves_each, lie_before, lie_behind}
 use Rattle.ferry_run_tag.proofs.ShowLemmas.{standing_now}
@@ -45,8 +45,9 @@ use Rattle.ferry_write.specs.Script.{AllDone}
 
 -- each record had a tag
 needless_then : (asked : Tagging) (store : Store) (count : ℕ) (h g i : History) (opens : OpensFilesTo (files_now h) asked.secret (repo_view store.repo))
-    (o : OpensFound false store h g) → TellsNothing h g → OnlyRemoves h g → TellsNothing g i → NeedsNoTag (repo_view store.repo) count g i
-    → HasTags asked.secret asked.timestamp count h i
+    (o : OpensFound false store h g) → TellsNothing h g → OnlyRemoves h g → TellsNothing g i
+    → NeedsNoTag asked.drawn asked.drawn_now (repo_view store.repo) count g i
+    → HasTags asked.secret asked.timestamp asked.drawn asked.drawn_now count h i
 needless_then asked store count h g i opens o untold removes untold_then needs =
     let repo = repo_view store.repo in
     let time = time_of asked.timestamp repo.manifest in
@@ -55,12 +56,17 @@ needless_then asked store count h g i opens o untold removes untold_then needs =
     let are_read = are_read_same (files_now g) (files_now h) repo lie repo.manifest.archives needs.reads needs.are_read in
     let shows : ShowsStanding (found (Some o.committed) (files_now h)) (files_now g) =
     subst (λ (w : Written). ShowsStanding w (files_now g)) o.found_is (standing_now false store o.fits.written g o.fits.under_way) in
-    let left = needless_left asked.secret (files_now h) (files_now g) repo time none
+    let left : (keeps : LeavesArchives asked.secret asked.timestamp (files_now h) repo true (files_now g))
+    × DrawsTags repo.keys keeps.olds keeps.texts keeps.renewals asked.drawn asked.drawn_now =
+    needless_left asked.secret (files_now h) (files_now g) repo time asked.drawn asked.drawn_now none needs.undrawn
     (standing_left asked.secret (files_now h) (files_now g) repo time o.committed opens o.shown shows) in
+    let both = subst (λ (k : History). (keeps : LeavesArchives asked.secret asked.timestamp (files_now h) repo true (files_now k))
+    × DrawsTags repo.keys keeps.olds keeps.texts keeps.renewals asked.drawn asked.drawn_now) (sym needs.same) left in
     record {
       repo = repo;
       opens = opens;
-      left = subst (λ (k : History). LeavesArchives asked.secret asked.timestamp (files_now h) repo true (files_now k)) (sym needs.same) left;
+      left = both.0;
+      drew = both.1;
       reads = needs.reads;
       are_read = are_read;
       idle = λ none. subst (λ (k : History). LeavesSegments (files_now h) (files_now k)) (sym needs.same) removes.last;
@@ -72,8 +78,9 @@ needless_then asked store count h g i opens o untold removes untold_then needs =
 -- some got one
 tagged_then : (asked : Tagging) (store now : Store) (count : ℕ) (h g i : History) (opens : OpensFilesTo (files_now h) asked.secret (repo_view store.repo))
     (o : OpensFound false store h g) → TellsNothing h g → TellsNothing g i
-    → HasWritten false (time_of asked.timestamp (repo_view store.repo).manifest) (files_now g) (repo_view store.repo) o.fits.written now count i
-    → HasTags asked.secret asked.timestamp count h i
+    → HasWritten false (time_of asked.timestamp (repo_view store.repo).manifest) asked.drawn asked.drawn_now (files_now g)
+    (repo_view store.repo) o.fits.written now count i
+    → HasTags asked.secret asked.timestamp asked.drawn asked.drawn_now count h i
 tagged_then asked store now count h g i opens o untold untold_then d =
     let repo = repo_view store.repo in
     let time = time_of asked.timestamp repo.manifest in
@@ -103,10 +110,15 @@ tagged_then asked store now count h g i opens o untold untold_then d =
       shows = shows;
       manifest = manifest;
     } in
+    let both : (keeps : LeavesArchives asked.secret asked.timestamp (files_now h) repo true (files_now i))
+    × DrawsTags repo.keys keeps.olds keeps.texts keeps.renewals asked.drawn asked.drawn_now =
+    tagged_with asked.secret (files_now h) (files_now i) repo time o.committed opens o.shown shown
+    (λ olds texts renewals. DrawsTags repo.keys olds texts renewals asked.drawn asked.drawn_now) d.drew in
     record {
       repo = repo;
       opens = opens;
-      left = tagged_left asked.secret (files_now h) (files_now i) repo time o.committed opens o.shown shown;
+      left = both.0;
+      drew = both.1;
       reads = freed.reads;
       are_read = freed.are_read;
       count_is = d.count_is ∙ same_count (files_now h) repo repo.manifest.archives d.olds freed.reads old freed.are_read;
@@ -119,7 +131,8 @@ tagged_then asked store now count h g i opens o untold untold_then d =
 
 gets_then : (asked : Tagging) (store now : Store) (count : ℕ) (h g i : History) → OpensFilesTo (files_now h) asked.secret (repo_view store.repo)
     → TellsNothing h g → OnlyRemoves h g → OpenFits store h g → TellsNothing g i
-    → Tags (time_of asked.timestamp (repo_view store.repo).manifest) store now count g i → GetsTags asked.secret asked.timestamp count h i
+    → Tags (time_of asked.timestamp (repo_view store.repo).manifest) asked.drawn asked.drawn_now store now count g i
+    → GetsTags asked.secret asked.timestamp asked.drawn asked.drawn_now count h i
 gets_then asked store now count h g i opens untold removes fits untold_then tags begun =
     let o : OpensFound false store h g = fits false begun (λ c. absurd (let no : ⊥ = cc in no)) in
     elim (tags false o.fits) [
@@ -128,16 +141,20 @@ gets_then asked store now count h g i opens untold removes fits untold_then tags
     ]
 
 -- that is told
-ends_then : (asked : Tagging) (count : ℕ) (h g i : History) → GetsTags asked.secret asked.timestamp count h g → i ≡ with_act (TellOf (tagged_line count)) true g
-    → (h.acts ≡ [] → HasTagged asked.secret asked.timestamp h i)
+ends_then : (asked : Tagging) (count : ℕ) (h g i : History) → GetsTags asked.secret asked.timestamp asked.drawn asked.drawn_now count h g
+    → i ≡ with_act (TellOf (tagged_line count)) true g
+    → (h.acts ≡ [] → HasTagged asked.secret asked.timestamp asked.drawn asked.drawn_now h i)
 ends_then asked count h g i gets is begun =
     let tags = gets begun in
     let line = tagged_line count in
     let files : files_now i ≡ files_now g = ap files_now is ∙ tells_same line g in
+    let both = subst (λ (f : Files). (keeps : LeavesArchives asked.secret asked.timestamp (files_now h) tags.repo true f)
+    × DrawsTags tags.repo.keys keeps.olds keeps.texts keeps.renewals asked.drawn asked.drawn_now) (sym files) (tags.left, tags.drew) in
     record {
       repo = tags.repo;
       opens = tags.opens;
-      left = subst (λ (f : Files). LeavesArchives asked.secret asked.timestamp (files_now h) tags.repo true f) (sym files) tags.left;
+      left = both.0;
+      drew = both.1;
       reads = tags.reads;
       are_read = tags.are_read;
       idle = λ none. subst (λ (f : Files). LeavesSegments (files_now h) f) (sym files) (tags.idle none);
@@ -191,26 +208,28 @@ pub tagged_works : (asked : Tagging) (store now : Store) (a b c : Option Told) (
     → IfSome a (λ t. OpensFilesTo (told_files t) asked.secret (repo_view store.repo)) → Between a b TellsNothing → Between a b OnlyRemoves
     → Did OpenEach OpenFits a b n m (Ok store) → Between b c TellsNothing
     → Works (TagsSound (time_of asked.timestamp (repo_view store.repo).manifest) store)
-    (Tags (time_of asked.timestamp (repo_view store.repo).manifest) store now) b c m k result
-    → Works (TagEach asked) (GetsTags asked.secret asked.timestamp) a c n k result
+    (Tags (time_of asked.timestamp (repo_view store.repo).manifest) asked.drawn asked.drawn_now store now) b c m k result
+    → Works (TagEach asked) (GetsTags asked.secret asked.timestamp asked.drawn asked.drawn_now) a c n k result
 tagged_works asked store now a b c n m k result opens untold removes opened untold_then tagged =
     let time = time_of asked.timestamp (repo_view store.repo).manifest in
     works_then OpensUntold (OpensStore asked) (TagsSound time store)
-    (λ (count : ℕ) h g. TellsNothing h g × Tags time store now count h g) (TagEach asked) (GetsTags asked.secret asked.timestamp) a b c n m k store result
+    (λ (count : ℕ) h g. TellsNothing h g × Tags time asked.drawn asked.drawn_now store now count h g) (TagEach asked)
+    (GetsTags asked.secret asked.timestamp asked.drawn asked.drawn_now) a b c n m k store result
     (λ h g i each done q sound. each_tagged asked store h g i q.1.0 each.1.0 done q.1.1 sound)
     (λ count h g i q e. gets_then asked store now count h g i q.1.0 q.0.0 q.0.1.1 q.1.1 e.0 e.1)
     (opened_works asked store a b n m opens untold removes opened)
-    (tags_untold (TagsSound time store) (Tags time store now) b c m k result untold_then tagged)
+    (tags_untold (TagsSound time store) (Tags time asked.drawn asked.drawn_now store now) b c m k result untold_then tagged)
 
 -- the line is told, or it isn't
 told_works : (asked : Tagging) (count : ℕ) (a b c : Option Told) (n m k : ℕ) (result : Result (Unit {0}) CarryFault)
-    → Works (TagEach asked) (GetsTags asked.secret asked.timestamp) a b n m (Ok count)
+    → Works (TagEach asked) (GetsTags asked.secret asked.timestamp asked.drawn asked.drawn_now) a b n m (Ok count)
     → Works (IsStep (TellOf (tagged_line count))) (λ _ h g. g ≡ with_act (TellOf (tagged_line count)) true h) b c m k result
-    → Works (TagEach asked) (λ _ h g. h.acts ≡ [] → HasTagged asked.secret asked.timestamp h g) a c n k result
+    → Works (TagEach asked) (λ _ h g. h.acts ≡ [] → HasTagged asked.secret asked.timestamp asked.drawn asked.drawn_now h g) a c n k result
 told_works asked count a b c n m k result tagged told =
     let line = tagged_line count in
-    works_then (TagEach asked) (GetsTags asked.secret asked.timestamp) (IsStep (TellOf line)) (λ _ h g. g ≡ with_act (TellOf line) true h) (TagEach asked)
-    (λ (_ : Unit {0}) h g. h.acts ≡ [] → HasTagged asked.secret asked.timestamp h g) a b c n m k count result
+    works_then (TagEach asked) (GetsTags asked.secret asked.timestamp asked.drawn asked.drawn_now) (IsStep (TellOf line))
+    (λ _ h g. g ≡ with_act (TellOf line) true h) (TagEach asked)
+    (λ (_ : Unit {0}) h g. h.acts ≡ [] → HasTagged asked.secret asked.timestamp asked.drawn asked.drawn_now h g) a b c n m k count result
     (λ h g i each done gets is. each_told asked line h g i each done (λ begun. settled_some g.acts (gets begun).settled_is) is)
     (λ _ h g i gets is. ends_then asked count h g i gets is) tagged told
 
@@ -221,10 +240,11 @@ did_works E Q a b n m x p = record { each = p.each; end = p.end; ends = p.ends; 
 
 -- it isn't told
 pub untold_works : (asked : Tagging) (count : ℕ) (a b c : Option Told) (n m k : ℕ) (refusal : StoreRefusal)
-    → Works (TagEach asked) (GetsTags asked.secret asked.timestamp) a b n m (Ok count)
+    → Works (TagEach asked) (GetsTags asked.secret asked.timestamp asked.drawn asked.drawn_now) a b n m (Ok count)
     → Did {T = Unit {0}} (IsStep (TellOf (tagged_line count))) (λ _ h g. g ≡ with_act (TellOf (tagged_line count)) true h) b c m k
     (Err refusal)
-    → Works (TagEach asked) (λ (_ : Unit {0}) h g. h.acts ≡ [] → HasTagged asked.secret asked.timestamp h g) a c n k (Err (target_fault refusal))
+    → Works (TagEach asked) (λ (_ : Unit {0}) h g. h.acts ≡ [] → HasTagged asked.secret asked.timestamp asked.drawn asked.drawn_now h g) a c n k
+    (Err (target_fault refusal))
 untold_works asked count a b c n m k refusal tagged told =
     told_works asked count a b c n m k (Err (target_fault refusal)) tagged
     (record {
@@ -236,10 +256,10 @@ untold_works asked count a b c n m k refusal tagged told =
 
 -- it is told
 pub all_works : (asked : Tagging) (count : ℕ) (a b c : Option Told) (n m k : ℕ)
-    → Works (TagEach asked) (GetsTags asked.secret asked.timestamp) a b n m (Ok count)
+    → Works (TagEach asked) (GetsTags asked.secret asked.timestamp asked.drawn asked.drawn_now) a b n m (Ok count)
     → Did {T = Unit {0}} (IsStep (TellOf (tagged_line count))) (λ _ h g. g ≡ with_act (TellOf (tagged_line count)) true h) b c m k
     (Ok tt)
-    → Works (TagEach asked) (λ (_ : Unit {0}) h g. h.acts ≡ [] → HasTagged asked.secret asked.timestamp h g) a c n k (Ok tt)
+    → Works (TagEach asked) (λ (_ : Unit {0}) h g. h.acts ≡ [] → HasTagged asked.secret asked.timestamp asked.drawn asked.drawn_now h g) a c n k (Ok tt)
 all_works asked count a b c n m k tagged told =
     told_works asked count a b c n m k (Ok tt) tagged
     (did_works {T = Unit {0}} (IsStep (TellOf (tagged_line count))) (λ _ h g. g ≡ with_act (TellOf (tagged_line count)) true h) b c m k
@@ -250,9 +270,10 @@ all_works asked count a b c n m k tagged told =
 -- the target wasn't opened
 pub unopened_works : (asked : Tagging) (Q : Store → History → History → Type 0) (a b : Option Told) (n m : ℕ) (refusal : StoreRefusal)
     → Between a b TellsNothing → Did OpenEach Q a b n m (Err refusal)
-    → Works (TagEach asked) (GetsTags asked.secret asked.timestamp) a b n m (Err (target_fault refusal))
+    → Works (TagEach asked) (GetsTags asked.secret asked.timestamp asked.drawn asked.drawn_now) a b n m (Err (target_fault refusal))
 unopened_works asked Q a b n m refusal untold opened =
-    works_err OpenEach Q (TagEach asked) (GetsTags asked.secret asked.timestamp) a b n m refusal (λ h g none each. (each_opened asked h g each).0) untold opened
+    works_err OpenEach Q (TagEach asked) (GetsTags asked.secret asked.timestamp asked.drawn asked.drawn_now) a b n m refusal
+    (λ h g none each. (each_opened asked h g each).0) untold opened
 
 pub unopened_left : (asked : Tagging) (a b : Option Told) → Between a b TellsNothing → Between a b OpenEach
     → Between a b (LeavesAll asked.secret (LeavesArchives asked.secret asked.timestamp))
@@ -279,8 +300,8 @@ untagged_left asked store a b c n m opens untold removes opened untold_then leav
 
 -- what is known at the end
 pub tagged_ended : (asked : Tagging) (a b : Option Told) (n m : ℕ)
-    → Works (TagEach asked) (λ (_ : Unit {0}) h g. h.acts ≡ [] → HasTagged asked.secret asked.timestamp h g) a b n m (Ok tt)
-    → Between a b (λ h g. h.acts ≡ [] → HasTagged asked.secret asked.timestamp h g)
+    → Works (TagEach asked) (λ (_ : Unit {0}) h g. h.acts ≡ [] → HasTagged asked.secret asked.timestamp asked.drawn asked.drawn_now h g) a b n m (Ok tt)
+    → Between a b (λ h g. h.acts ≡ [] → HasTagged asked.secret asked.timestamp asked.drawn asked.drawn_now h g)
 tagged_ended asked a b n m works =
-    between_map a b (λ h g. AllDone h g × (h.acts ≡ [] → HasTagged asked.secret asked.timestamp h g))
-    (λ h g. h.acts ≡ [] → HasTagged asked.secret asked.timestamp h g) (λ h g e. e.1) works.end
+    between_map a b (λ h g. AllDone h g × (h.acts ≡ [] → HasTagged asked.secret asked.timestamp asked.drawn asked.drawn_now h g))
+    (λ h g. h.acts ≡ [] → HasTagged asked.secret asked.timestamp asked.drawn asked.drawn_now h g) (λ h g e. e.1) works.end

@@ -38,13 +38,16 @@ use Rattle.ferry_write.proofs.LawLemmas.{fits_now}
 use Rattle.ferry_write.specs.Room.{behind}
 use Rattle.ferry_write.specs.Script.{AllDone}
 
--- what a tagging is asked for: the target's secret, and the time of the manifest, where it is given
+-- what a tagging is asked for: the target's secret, and the time of the manifest, where it is given; and what a source of random bytes had handed out before
+-- it and behind it
 pub record Tagging : Type 0 where
   pub secret : Secret
   pub timestamp : Option (List ℕ)
+  pub drawn : Option (List ℕ)
+  pub drawn_now : Option (List ℕ)
 
-abbrev pub tagging : Secret → Option (List ℕ) → Tagging
-tagging secret timestamp = record { secret = secret; timestamp = timestamp }
+abbrev pub tagging : Secret → Option (List ℕ) → Option (List ℕ) → Option (List ℕ) → Tagging
+tagging secret timestamp drawn drawn_now = record { secret = secret; timestamp = timestamp; drawn = drawn; drawn_now = drawn_now }
 
 -- Files have each archive that a repository had which opened from these, with the tags that they had, or with all.
 abbrev pub KeepsEach : Tagging → Files → RepoState → Files → Type 0

@@ -7,7 +7,7 @@ use Rattle.ferry_disk.specs.Device.{Told, told_files}
 use Rattle.ferry_disk.specs.Files.{Files}
 use Rattle.ferry_piece.specs.declared.fault.CarryFault.{CarryFault}
 use Rattle.ferry_refs.specs.Deleting.{time_of}
-use Rattle.ferry_refs.specs.Tagging.{HasLargeRecord, HasLargeTagged, IsNewId, KeepsArchives, RefusesTagging}
+use Rattle.ferry_refs.specs.Tagging.{DrawsTags, HasLargeRecord, HasLargeTagged, IsNewId, KeepsArchives, RefusesTagging}
 use Rattle.ferry_repo.specs.Opening.{OpensFilesTo, RepoState}
 use Rattle.ferry_repo.specs.declared.fault.RepoFault.TheVariants as Repos
 use Rattle.ferry_repo.specs.declared.secret.Secret.{Secret}
@@ -32,22 +32,23 @@ LeavesArchives secret timestamp start before tagged image = KeepsArchives secret
 
 -- ---- the end
 
--- The target's files opened, and now they open with each archive that was there, and each record has a tag; how many had none is told. Where none had none,
--- no segment came.
-pub record HasTagged (secret : Secret) (timestamp : Option (List ℕ)) (before now : History) : Type 0 where
+-- The target's files opened, and now they open with each archive that was there, and each record has a tag, whose salt was drawn; how many had none is
+-- told. Where none had none, no segment came.
+pub record HasTagged (secret : Secret) (timestamp drawn drawn_now : Option (List ℕ)) (before now : History) : Type 0 where
   pub repo : RepoState
   pub opens : OpensFilesTo (files_now before) secret repo
   pub left : LeavesArchives secret timestamp (files_now before) repo true (files_now now)
   pub reads : List ArchiveRead
   pub are_read : AreRead (files_now before) repo repo.manifest.archives reads
+  pub drew : DrawsTags repo.keys left.olds left.texts left.renewals drawn drawn_now
   pub idle : untagged reads ≡ [] → LeavesSegments (files_now before) (files_now now)
   pub told : lines_of now.acts ≡ lines_of before.acts ++ tagged_line (length (untagged reads)) ∷ []
 
 -- ---- where it is refused, and where it is done
 
 -- Why archives aren't tagged of what these files open to, where the target tells this in the end.
-abbrev pub RefusesTags : Option (List ℕ) → Option Told → Files → RepoState → CarryFault → Type 0
-RefusesTags timestamp now files repo fault = RefusesTagging files repo (time_of timestamp repo.manifest) now fault
+abbrev pub RefusesTags : Option (List ℕ) → Option (List ℕ) → Option (List ℕ) → Option Told → Files → RepoState → CarryFault → Type 0
+RefusesTags timestamp drawn drawn_now now files repo fault = RefusesTagging files repo (time_of timestamp repo.manifest) drawn drawn_now now fault
 
 -- a limit that is met: the counter blocks of a blob aren't left in a run that began with the files at its start, or a segment has the greatest number, or a
 -- record or the manifest is too large
@@ -59,21 +60,23 @@ LimitsTagging timestamp repo files start image Limits.Segment = HasLastSegment i
 LimitsTagging timestamp repo files start image limit = ⊥
 
 -- No chunk is live in files under the id of a new record whose blob breaks a rule.
-abbrev pub OpensNew : Files → RepoState → Files → Type 0
-OpensNew files repo image = (id : List ℕ) (fault : BlobFault) → IsNewId files repo id → BreaksLive image repo.keys id fault → ⊥
+abbrev pub OpensNew : Files → RepoState → Option (List ℕ) → Option (List ℕ) → Files → Type 0
+OpensNew files repo drawn drawn_now image = (id : List ℕ) (fault : BlobFault) → IsNewId files repo drawn drawn_now id → BreaksLive image repo.keys id fault → ⊥
 
 -- The target is refused for a chunk that is live under the id of a new record, and whose blob breaks a rule.
-abbrev pub BreaksNew : Files → RepoState → Files → Status → Type 0
-BreaksNew files repo image (Statuses.TargetRefused (Refusals.Repo (Repos.Blob id fault))) = IsNewId files repo id × BreaksLive image repo.keys id fault
-BreaksNew files repo image status = ⊥
+abbrev pub BreaksNew : Files → RepoState → Option (List ℕ) → Option (List ℕ) → Files → Status → Type 0
+BreaksNew files repo drawn drawn_now image (Statuses.TargetRefused (Refusals.Repo (Repos.Blob id fault))) =
+    IsNewId files repo drawn drawn_now id × BreaksLive image repo.keys id fault
+BreaksNew files repo drawn drawn_now image status = ⊥
 
 -- Where the target opens, with a number in the file `nonce`, and the record and the stream of each archive read, the archives are tagged, unless memory was
 -- refused, a device failed, a limit was met, or a chunk is live under the id of a new record and doesn't open.
-abbrev pub TagsDone : Secret → Option (List ℕ) → Option Told → Option Told → Status → Type 0
-TagsDone secret timestamp before now status = IfSome before (λ b. IfSome now (λ t. b.history.acts ≡ [] → (ready : OpensNumbered secret (told_files b))
+abbrev pub TagsDone : Secret → Option (List ℕ) → Option (List ℕ) → Option (List ℕ) → Option Told → Option Told → Status → Type 0
+TagsDone secret timestamp drawn drawn_now before now status = IfSome before (λ b. IfSome now
+    (λ t. b.history.acts ≡ [] → (ready : OpensNumbered secret (told_files b))
     → (reads : List ArchiveRead) → AreRead (told_files b) ready.repo ready.repo.manifest.archives reads
     → IsDoneUnless (LimitsTagging timestamp ready.repo (told_files b) t.history.start (told_files t))
-    (BreaksNew (told_files b) ready.repo (told_files t)) status))
+    (BreaksNew (told_files b) ready.repo drawn drawn_now (told_files t)) status))
 
 -- ---- the whole of what is claimed
 
@@ -82,6 +85,6 @@ TagsDone secret timestamp before now status = IfSome before (λ b. IfSome now (�
 -- open. Each archive that was whole is whole and says the same, where no contents collide among the new records and what was live, under the same names with
 -- the same times; all have the tags that they had, or all have one.
 pub record TagsArchives (secret : Secret) (timestamp : Option (List ℕ)) (before : Devices) (status : Status) (after : Devices) : Type 0 where
-  pub changes : ChangesArchives secret (LeavesArchives secret timestamp) (HasTagged secret timestamp) (RefusesTags timestamp)
-      before status after
-  pub completes : TagsDone secret timestamp before.target.told after.target.told status
+  pub changes : ChangesArchives secret (LeavesArchives secret timestamp) (HasTagged secret timestamp before.entropy.bytes after.entropy.bytes)
+      (RefusesTags timestamp before.entropy.bytes after.entropy.bytes) before status after
+  pub completes : TagsDone secret timestamp before.entropy.bytes after.entropy.bytes before.target.told after.target.told status

@@ -45,14 +45,14 @@ pub fn tag_archives<D: Depot, E: Entropy>(
     requires begun { IfSome (D.told target.old) (λ t. t.history.acts ≡ []) }
     ensures each { Between (D.told target.old) (D.told target.new) (ChangesEach secret.now (LeavesArchives secret.now timestamp)) }
     ensures ended { result ≡ TheStatus.Done → Between (D.told target.old) (D.told target.new) (λ h g.
-        h.acts ≡ [] → HasTagged secret.now timestamp h g) }
+        h.acts ≡ [] → HasTagged secret.now timestamp (E.drawn entropy.old) (E.drawn entropy.new) h g) }
     ensures left { Between (D.told target.old) (D.told target.new) (ChangesLeave secret.now (LeavesArchives secret.now timestamp)) }
     // Where the target doesn't open, nothing is done.
     ensures shut { Between (D.told target.old) (D.told target.new) (OpenLeaves secret.now) }
     ensures kept { is_of_work result ≡ true → Between (D.told target.old) (D.told target.new) (LeavesAll secret.now (LeavesArchives secret.now timestamp)) }
     ensures refused { (result ≡ TheStatus.Done) ⊎ IsRefusedBy carry_status
-        (RefusesChange secret.now (RefusesTags timestamp (D.told target.new)) (D.told target.old)) result }
-    ensures completes { TagsDone secret.now timestamp (D.told target.old) (D.told target.new) result }
+        (RefusesChange secret.now (RefusesTags timestamp (E.drawn entropy.old) (E.drawn entropy.new) (D.told target.new)) (D.told target.old)) result }
+    ensures completes { TagsDone secret.now timestamp (E.drawn entropy.old) (E.drawn entropy.new) (D.told target.old) (D.told target.new) result }
     ensures ends { FailedWhere (target_failed result) (D.told target.old) (D.told target.new) }
     ensures cause { RoseWhere (target_failed result) (D.faults target.old) (D.faults target.new) }
     ensures entropy { RoseWhere (entropy_failed result) (E.faults entropy.old) (E.faults entropy.new) }
@@ -76,9 +76,11 @@ fn tag_and_tell<D: Depot, E: Entropy>(
     entropy: &mut E,
 ) -> Result<(), CarryFault>
     requires begun { IfSome (D.told target.old) (λ t. t.history.acts ≡ []) }
-    ensures works { Works (ChangesEach secret.now (LeavesArchives secret.now timestamp.now)) (λ _ h g. h.acts ≡ [] → HasTagged secret.now timestamp.now h g)
+    ensures works { Works (ChangesEach secret.now (LeavesArchives secret.now timestamp.now))
+        (λ _ h g. h.acts ≡ [] → HasTagged secret.now timestamp.now (E.drawn entropy.old) (E.drawn entropy.new) h g)
         (D.told target.old) (D.told target.new) (D.faults target.old) (D.faults target.new) result }
-    ensures refused { IfErr result (RefusesChange secret.now (RefusesTags timestamp.now (D.told target.new)) (D.told target.old)) }
+    ensures refused { IfErr result (RefusesChange secret.now (RefusesTags timestamp.now (E.drawn entropy.old) (E.drawn entropy.new) (D.told target.new))
+        (D.told target.old)) }
     ensures kept { IfErr result (λ fault. IsOfWork fault
         → Between (D.told target.old) (D.told target.new) (LeavesAll secret.now (LeavesArchives secret.now timestamp.now))) }
     ensures shut { Between (D.told target.old) (D.told target.new) (OpenLeaves secret.now) }
@@ -100,9 +102,11 @@ fn tag_target<D: Depot, E: Entropy>(
     entropy: &mut E,
 ) -> Result<u64, CarryFault>
     requires begun { IfSome (D.told target.old) (λ t. t.history.acts ≡ []) }
-    ensures works { Works (ChangesEach secret.now (LeavesArchives secret.now timestamp.now)) (GetsTags secret.now timestamp.now)
+    ensures works { Works (ChangesEach secret.now (LeavesArchives secret.now timestamp.now))
+        (GetsTags secret.now timestamp.now (E.drawn entropy.old) (E.drawn entropy.new))
         (D.told target.old) (D.told target.new) (D.faults target.old) (D.faults target.new) result }
-    ensures refused { IfErr result (RefusesChange secret.now (RefusesTags timestamp.now (D.told target.new)) (D.told target.old)) }
+    ensures refused { IfErr result (RefusesChange secret.now (RefusesTags timestamp.now (E.drawn entropy.old) (E.drawn entropy.new) (D.told target.new))
+        (D.told target.old)) }
     ensures kept { IfErr result (λ fault. IsOfWork fault
         → Between (D.told target.old) (D.told target.new) (LeavesAll secret.now (LeavesArchives secret.now timestamp.now))) }
     ensures shut { Between (D.told target.old) (D.told target.new) (OpenLeaves secret.now) }

@@ -279,8 +279,10 @@ command_goes (Compact threshold) secrets before now first last devices status af
     compact_goes secrets.target before now may.begun may.kept writes
     (between_known CompactEach devices.target.told after.target.told first last before now told told_after first_is last_is does.each)
 command_goes (TagArchives timestamp) secrets before now first last devices status after told told_after first_is last_is writes does may =
-    tag_goes (tagging secrets.target timestamp) before now may.begun may.kept writes
-    (between_known (TagEach (tagging secrets.target timestamp)) devices.target.told after.target.told first last before now told told_after first_is
+    tag_goes (tagging secrets.target timestamp devices.entropy.bytes after.entropy.bytes) before now may.begun may.kept writes
+    (between_known
+    (TagEach (tagging secrets.target timestamp devices.entropy.bytes after.entropy.bytes)) devices.target.told after.target.told first last before now told
+    told_after first_is
     last_is does.changes.each)
 command_goes Keys secrets before now first last devices status after told told_after first_is last_is writes does may = absurd writes
 command_goes Key secrets before now first last devices status after told told_after first_is last_is writes does may = absurd writes

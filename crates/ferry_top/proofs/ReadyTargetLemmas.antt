@@ -126,9 +126,11 @@ module _ (asked_for : Deletion) (repo : RepoState) (start image : Files) (IsMet 
   delete_done (Taken name) d = absurd d
   delete_done (NotFound name) d = absurd d
 
-module _ (asked_for : Tagging) (repo : RepoState) (files start image : Files) (opens : OpensNew files repo image) (IsMet : LimitKind → Type 0)
+module _ (asked_for : Tagging) (repo : RepoState) (files start image : Files) (opens : OpensNew files repo asked_for.drawn asked_for.drawn_now image)
+    (IsMet : LimitKind → Type 0)
     (met : (limit : LimitKind) → LimitsTagging asked_for.timestamp repo files start image limit → IsMet limit) where
-  tag_done : (status : Status) → IsDoneUnless (LimitsTagging asked_for.timestamp repo files start image) (BreaksNew files repo image) status
+  tag_done : (status : Status) → IsDoneUnless (LimitsTagging asked_for.timestamp repo files start image)
+      (BreaksNew files repo asked_for.drawn asked_for.drawn_now image) status
       → IsDoneOr IsMet status
   tag_done Done d = tt
   tag_done Memory d = tt
@@ -308,12 +310,12 @@ module _ (secrets : Secrets) (drawn : Drawn) (output output_now : Written) (stat
       compacted_done b t status (Meets (Compact threshold) secrets source (Some b) (Some t)) (λ limit m. m) ready refused
 
   tagged : (timestamp : Option (List ℕ)) (source before now : Option Told) → IfSome before (λ b. b.history.acts ≡ [])
-      → IsReadyTo (TagArchives timestamp) secrets drawn source before now → TagsDone secrets.target timestamp before now status
+      → IsReadyTo (TagArchives timestamp) secrets drawn source before now → TagsDone secrets.target timestamp drawn.before drawn.now before now status
       → IsDoneOr (Meets (TagArchives timestamp) secrets source before now) status
   tagged timestamp source None now begun ready done = absurd ready
   tagged timestamp source (Some b) None begun ready done = absurd ready
   tagged timestamp source (Some b) (Some t) begun ready done =
-      tag_done (tagging secrets.target timestamp) ready.0.repo (told_files b) t.history.start (told_files t) ready.1.1
+      tag_done (tagging secrets.target timestamp drawn.before drawn.now) ready.0.repo (told_files b) t.history.start (told_files t) ready.1.1
       (Meets (TagArchives timestamp) secrets source (Some b) (Some t)) (λ limit m. (ready.0.repo, (ready.0.opens, m))) status
       (done begun ready.0 ready.1.0.0 ready.1.0.1)
 

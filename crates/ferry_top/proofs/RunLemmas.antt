@@ -9,7 +9,6 @@ use Rattle.ferry_run_compact.proofs.CompactLemmas.{compacts_nothing}
 use Rattle.ferry_run_delete.proofs.DoneLemmas.{deletes_nothing}
 use Rattle.ferry_run_delete.proofs.ShowLemmas.{deletion}
 use Rattle.ferry_run_tag.proofs.DoneLemmas.{tags_nothing}
-use Rattle.ferry_run_tag.proofs.ShowLemmas.{tagging}
 use Rattle.ferry_top.proofs.InitLemmas.{each_command}
 use Rattle.ferry_status.proofs.StatusLemmas.{IsOfStore, of_store}
 use Rattle.ferry_run_plan.proofs.PlanLemmas.{plans_nothing}
@@ -300,6 +299,6 @@ does_nothing (Ok (Transfer block checkpoint timestamp names)) secrets all =
 does_nothing (Ok (Plan block names)) secrets all = plans_nothing (planned_for secrets block names all.source.told) all
 does_nothing (Ok (Delete timestamp name)) secrets all = deletes_nothing (deletion secrets.target name timestamp) all
 does_nothing (Ok (Compact threshold)) secrets all = compacts_nothing threshold all
-does_nothing (Ok (TagArchives timestamp)) secrets all = tags_nothing (tagging secrets.target timestamp) all
+does_nothing (Ok (TagArchives timestamp)) secrets all = tags_nothing secrets.target timestamp all
 does_nothing (Ok (Drill count)) secrets all = drills_nothing count all
 does_nothing (Err word) secrets all = refl

@@ -65,7 +65,8 @@ IsReadyTo (Delete timestamp name) secrets drawn source before now =
     (ready : OpensNumbered secrets.target (told_files b)) × (IsNamed ready.repo name × AllRead (told_files b) ready.repo)))
 IsReadyTo (Compact threshold) secrets drawn source before now = Tells before (λ b. Tells now (λ t. ReadsTarget (told_files b)))
 IsReadyTo (TagArchives timestamp) secrets drawn source before now = Tells before (λ b. Tells now (λ t.
-    (ready : OpensNumbered secrets.target (told_files b)) × (AllRead (told_files b) ready.repo × OpensNew (told_files b) ready.repo (told_files t))))
+    (ready : OpensNumbered secrets.target (told_files b)) × (AllRead (told_files b) ready.repo
+    × OpensNew (told_files b) ready.repo drawn.before drawn.now (told_files t))))
 IsReadyTo command secrets drawn source before now = Tells source (λ s. HasShown command secrets.source (told_files s))
 
 -- the limits that a command can meet, each with what it says then

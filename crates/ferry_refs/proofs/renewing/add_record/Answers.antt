@@ -21,7 +21,7 @@ use Rattle.ferry_refs.proofs.RenewLemmas.{added_repo, text_adds}
 use Rattle.ferry_refs.proofs.renewing.add_record.Goals as goal
 use Rattle.ferry_refs.specs.Deleting.{LeavesCommitted}
 use Rattle.ferry_refs.specs.TagSteps.{AddsTexts, RefusesNewRecord}
-use Rattle.ferry_refs.specs.Tagging.{IsRenewal}
+use Rattle.ferry_refs.specs.Tagging.{DrawsRenewal}
 
 pub returns-in_err-text-clause-added : goal.returns-in_err-text-clause-added
 returns-in_err-text-clause-added g c =
@@ -38,7 +38,8 @@ returns-in_err-text-clause-added g c =
             (works_nothing (LeavesCommitted store) (λ (_ : List ℕ). AddsTexts ([] ∷ []) store store) a n fault
             (renewal_still c.keys.result.now (archive_view c.args.archive.now) fault c.in_err-text.ensures.refused) (leaves_here store)),
         err_is c.from_residual.result fault
-            (λ (r : Result (List ℕ) CarryFault). IfOk r (λ id. IsRenewal keys (archive_view c.args.archive.now) [] × (id ≡ content_id keys [])))
+            (λ (r : Result (List ℕ) CarryFault). IfOk r (λ id. DrawsRenewal keys (archive_view c.args.archive.now) [] (g.E.Entropy.drawn c.args.entropy.now)
+            (g.E.Entropy.drawn c.tagged_text.new.entropy) × (id ≡ content_id keys [])))
             c.from_residual.ensures.1 tt,
       ),
     )
@@ -51,13 +52,15 @@ returns-in_err-text-clause-refused g c =
     let a = g.D.Shelf.told c.args.depot.now in
     let keys = (repo_view c.args.store.now.repo).keys in
     let archive = archive_view c.args.archive.now in
+    let drawn = g.E.Entropy.drawn c.args.entropy.now in
+    let drawn_now = g.E.Entropy.drawn c.tagged_text.new.entropy in
     let fault = c.in_err-text.field-0.0 in
     err_is c.from_residual.result fault
-    (λ (r : Result (List ℕ) CarryFault). IfErr r (λ (f : CarryFault). IfSome a (λ _. RefusesNewRecord keys archive a f)))
+    (λ (r : Result (List ℕ) CarryFault). IfErr r (λ (f : CarryFault). IfSome a (λ _. RefusesNewRecord keys archive drawn drawn_now a f)))
     c.from_residual.ensures.1
-    (told_any a (λ f. RefusesNewRecord keys archive a fault)
-    (λ f. subst (λ (k : Keys). RefusesNewRecord k archive a fault) c.keys.ensures.keys
-    (renewal_refused c.keys.result.now archive a fault c.in_err-text.ensures.refused)))
+    (told_any a (λ f. RefusesNewRecord keys archive drawn drawn_now a fault)
+    (λ f. subst (λ (k : Keys). RefusesNewRecord k archive drawn drawn_now a fault) c.keys.ensures.keys
+    (renewal_refused c.keys.result.now archive drawn drawn_now a fault c.in_err-text.ensures.refused)))
 
 pub returns-in_err-added-clause-added : goal.returns-in_err-added-clause-added
 returns-in_err-added-clause-added g c =
@@ -80,7 +83,8 @@ returns-in_err-added-clause-added g c =
             a b n m refusal (λ h k _ keeps. keeps_leaves store h k keeps) c.add.ensures.untold
             c.in_err-added.ensures.did),
         err_is c.from_residual-in_err-added.result (target_fault refusal)
-            (λ (r : Result (List ℕ) CarryFault). IfOk r (λ id. IsRenewal keys (archive_view c.args.archive.now) text × (id ≡ content_id keys text)))
+            (λ (r : Result (List ℕ) CarryFault). IfOk r (λ id. DrawsRenewal keys (archive_view c.args.archive.now) text (g.E.Entropy.drawn c.args.entropy.now)
+            (g.E.Entropy.drawn c.tagged_text.new.entropy) × (id ≡ content_id keys text)))
             c.from_residual-in_err-added.ensures.1 tt,
       ),
     )
@@ -94,13 +98,15 @@ returns-in_err-added-clause-refused g c =
     let a = g.D.Shelf.told c.args.depot.now in
     let b = g.D.Shelf.told c.add.new.depot in
     let refusal = c.in_err-added.field-0.0 in
-    let renewal : IsRenewal keys archive text =
-    subst (λ (k : Keys). IsRenewal k archive text) c.keys.ensures.keys
-    (subst (λ (t : List ℕ). IsRenewal c.keys.result.now archive t) (sym c.deref.ensures.value) c.in_ok-text.ensures.renewal) in
+    let drawn = g.E.Entropy.drawn c.args.entropy.now in
+    let drawn_now = g.E.Entropy.drawn c.tagged_text.new.entropy in
+    let renewal : DrawsRenewal keys archive text drawn drawn_now =
+    subst (λ (k : Keys). DrawsRenewal k archive text drawn drawn_now) c.keys.ensures.keys
+    (subst (λ (t : List ℕ). DrawsRenewal c.keys.result.now archive t drawn drawn_now) (sym c.deref.ensures.value) c.in_ok-text.ensures.renewal) in
     err_is c.from_residual-in_err-added.result (target_fault refusal)
-    (λ (r : Result (List ℕ) CarryFault). IfErr r (λ (f : CarryFault). IfSome a (λ _. RefusesNewRecord keys archive b f)))
+    (λ (r : Result (List ℕ) CarryFault). IfErr r (λ (f : CarryFault). IfSome a (λ _. RefusesNewRecord keys archive drawn drawn_now b f)))
     c.from_residual-in_err-added.ensures.1
-    (new_refused store archive text b renewal a refusal c.in_err-added.ensures.refused c.in_err-added.ensures.stops)
+    (new_refused store archive text drawn drawn_now b renewal a refusal c.in_err-added.ensures.refused c.in_err-added.ensures.stops)
 
 pub returns-clause-added : goal.returns-clause-added
 returns-clause-added g c =
@@ -122,9 +128,11 @@ returns-clause-added g c =
       opens = c.in_ok-added.ensures.opens;
       accepted = c.add.ensures.accepted;
     } in
-    let renewal : IsRenewal keys archive text =
-    subst (λ (k : Keys). IsRenewal k archive text) c.keys.ensures.keys
-    (subst (λ (t : List ℕ). IsRenewal c.keys.result.now archive t) (sym c.deref.ensures.value) c.in_ok-text.ensures.renewal) in (
+    let drawn = g.E.Entropy.drawn c.args.entropy.now in
+    let drawn_now = g.E.Entropy.drawn c.tagged_text.new.entropy in
+    let renewal : DrawsRenewal keys archive text drawn drawn_now =
+    subst (λ (k : Keys). DrawsRenewal k archive text drawn drawn_now) c.keys.ensures.keys
+    (subst (λ (t : List ℕ). DrawsRenewal c.keys.result.now archive t drawn drawn_now) (sym c.deref.ensures.value) c.in_ok-text.ensures.renewal) in (
       text,
       (
         works_ok (KeepsSound store.session store.counter) (Adds store text now) (LeavesCommitted store) (λ (_ : List ℕ). AddsTexts (text ∷ []) store now)

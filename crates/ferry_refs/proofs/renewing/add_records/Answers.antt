@@ -1,5 +1,5 @@
 use Rattle.std.proofs.Common.{◌≡◌, ◌+◌, ◌<◌, ℕ, List, [], ◌∷◌, ◌++◌, length, take, get_or, Result, Vec, Global, Ok, Err, IfErr, IfOk, IfSome, refl, sym, ◌∙◌}
-use Rattle.std.proofs.Common.{ap, subst, arith}
+use Rattle.std.proofs.Common.{ap, subst, arith, inl}
 use Rattle.std.proofs.lemmas.List.{take_all}
 use Rattle.std.proofs.lemmas.Option.{IfSome_then}
 use Rattle.ferry_disk.proofs.DeviceLemmas.{told_any}
@@ -13,21 +13,22 @@ use Rattle.ferry_piece.specs.declared.fault.CarryFault.TheVariants as Carry
 use Rattle.ferry_repo.specs.Opening.{repo_view}
 use Rattle.ferry_stops.specs.Tells.{TellsNothing}
 use Rattle.ferry_store.proofs.StepLemmas.{here_each}
-use Rattle.ferry_refs.proofs.AddLemmas.{AddedTexts, added_more, added_none, both_works, memory_one_of, one_of, some_back, works_spent}
+use Rattle.ferry_refs.proofs.AddLemmas.{AddedTexts, added_more, added_none, both_works, one_of, some_back, works_spent}
 use Rattle.ferry_refs.proofs.DropLemmas.{all_get, untold_then}
 use Rattle.ferry_refs.proofs.RenewLemmas.{repo_here, repo_then}
 use Rattle.ferry_refs.proofs.renewing.add_records.Goals as goal
 use Rattle.ferry_refs.specs.Deleting.{LeavesCommitted}
-use Rattle.ferry_refs.specs.TagSteps.{AddsTexts, RefusesNewRecord, RefusesOneOf, olds_view}
-use Rattle.ferry_refs.specs.Tagging.{AreRenewals, ids_under}
+use Rattle.ferry_refs.specs.TagSteps.{AddsTexts, RefusesNewRecord, RefusesSome, olds_view}
+use Rattle.ferry_refs.specs.Tagging.{DrawsRenewals, ids_under}
 use Rattle.ferry_refs.specs.declared.untagged.Untagged.{Untagged}
 
 pub loop-place-init : goal.loop-place-init
 loop-place-init g c = record {
   added = subst (λ (ids : List (List ℕ)). AddedTexts (repo_view c.args.store.now.repo).keys [] ids c.args.store.now c.args.store.now
-      (g.D.Shelf.told c.args.depot.now) (g.D.Shelf.told c.args.depot.now) (g.D.Shelf.faults c.args.depot.now) (g.D.Shelf.faults c.args.depot.now))
-      (sym c.new-ids.ensures.items)
-      (added_none (repo_view c.args.store.now.repo).keys c.args.store.now (g.D.Shelf.told c.args.depot.now) (g.D.Shelf.faults c.args.depot.now));
+      (g.D.Shelf.told c.args.depot.now) (g.D.Shelf.told c.args.depot.now) (g.D.Shelf.faults c.args.depot.now) (g.D.Shelf.faults c.args.depot.now)
+      (g.E.Entropy.drawn c.args.entropy.now) (g.E.Entropy.drawn c.args.entropy.now)) (sym c.new-ids.ensures.items)
+      (added_none (repo_view c.args.store.now.repo).keys c.args.store.now (g.D.Shelf.told c.args.depot.now) (g.D.Shelf.faults c.args.depot.now)
+      (g.E.Entropy.drawn c.args.entropy.now));
   untold = here_each TellsNothing (g.D.Shelf.told c.args.depot.now) (λ h. refl);
   repo = repo_here (repo_view c.args.store.now.repo);
   accepted = refl;
@@ -58,11 +59,13 @@ loop-place-preserved g c =
     let lt : place < length untagged = omega arith in
     let one = c.in_ok-id.ensures.added in
     let some = added_more {T = List ℕ} store middle now untagged place (get_or untagged place c.index-untagged-place.result)
-    c.loop-place.ids.items one.0 id a b e n m k id lt
+    c.loop-place.ids.items one.0 id a b e n m k id (g.E.Entropy.drawn c.args.entropy.now) (g.E.Entropy.drawn c.loop-place.entropy)
+    (g.E.Entropy.drawn c.add_record.new.entropy) lt
     (ap (λ (u : Untagged). get_or untagged place u) c.index-untagged-place.is) c.loop-place.invariant.repo.keys c.loop-place.invariant.added
     one.1.0 one.1.1.0 one.1.1.1 in
     record {
-      added = subst (λ (l : List (List ℕ)). AddedTexts (repo_view store.repo).keys (olds_view (take (place + 1) untagged)) l store now a e n k)
+      added = subst (λ (l : List (List ℕ)). AddedTexts (repo_view store.repo).keys (olds_view (take (place + 1) untagged)) l store now a e n k
+          (g.E.Entropy.drawn c.args.entropy.now) (g.E.Entropy.drawn c.add_record.new.entropy))
           (sym c.in_ok-push.ensures.items) some;
       untold = untold_then a b e c.loop-place.invariant.untold c.add_record.ensures.untold;
       repo = repo_then (repo_view store.repo) (repo_view middle.repo) (repo_view now.repo) c.loop-place.invariant.repo c.in_ok-id.ensures.repo;
@@ -99,7 +102,8 @@ returns-in_err-id-clause-added g c =
             (works_front (LeavesCommitted store) (λ (_ : List ℕ). AddsTexts texts store now) (LeavesCommitted store)
             (λ (_ : Vec (List ℕ) Global). AddsTexts texts store now) a e n k fault (λ h g e. e) both),
         err_is c.from_residual.result fault
-            (λ (r : Result (Vec (List ℕ) Global) CarryFault). IfOk r (λ ids. AreRenewals keys olds texts × (ids.items ≡ ids_under keys texts)))
+            (λ (r : Result (Vec (List ℕ) Global) CarryFault). IfOk r (λ ids. DrawsRenewals keys olds texts (g.E.Entropy.drawn c.args.entropy.now)
+            (g.E.Entropy.drawn c.add_record.new.entropy) × (ids.items ≡ ids_under keys texts)))
             c.from_residual.ensures.1 tt,
       ),
     )
@@ -119,15 +123,19 @@ returns-in_err-id-clause-refused g c =
     let e = g.D.Shelf.told c.add_record.new.depot in
     let fault = c.in_err-id.field-0.0 in
     let lt : place < length untagged = omega arith in
-    let says = RefusesOneOf keys (olds_view untagged) e fault in
+    let drawn = g.E.Entropy.drawn c.args.entropy.now in
+    let drawn_then = g.E.Entropy.drawn c.loop-place.entropy in
+    let drawn_now = g.E.Entropy.drawn c.add_record.new.entropy in
+    let so_far = c.loop-place.invariant.added in
+    let says = RefusesSome keys (olds_view untagged) drawn drawn_now e fault in
     err_is c.from_residual.result fault
-    (λ (r : Result (Vec (List ℕ) Global) CarryFault). IfErr r (λ (f : CarryFault). IfSome a (λ _. RefusesOneOf keys (olds_view untagged) e f)))
+    (λ (r : Result (Vec (List ℕ) Global) CarryFault). IfErr r (λ (f : CarryFault). IfSome a (λ _. RefusesSome keys (olds_view untagged) drawn drawn_now e f)))
     c.from_residual.ensures.1
     (some_back TellsNothing a b says c.loop-place.invariant.untold
     (IfSome_then b c.in_err-id.ensures.refused (λ _ r.
-    one_of keys untagged place (get_or untagged place c.index-untagged-place.result) e fault lt
-    (ap (λ (u : Untagged). get_or untagged place u) c.index-untagged-place.is)
-    (subst (λ (s : Keys). RefusesNewRecord s (archive_view (get_or untagged place c.index-untagged-place.result).archive) e fault)
+    one_of keys untagged place (get_or untagged place c.index-untagged-place.result) so_far.texts drawn drawn_then drawn_now e fault lt
+    (ap (λ (u : Untagged). get_or untagged place u) c.index-untagged-place.is) so_far.drew
+    (subst (λ (s : Keys). RefusesNewRecord s (archive_view (get_or untagged place c.index-untagged-place.result).archive) drawn_then drawn_now e fault)
     c.loop-place.invariant.repo.keys r))))
 
 pub returns-in_err-push-clause-added : goal.returns-in_err-push-clause-added
@@ -156,7 +164,8 @@ returns-in_err-push-clause-added g c =
             (works_spent (LeavesCommitted store) (λ (_ : List ℕ). AddsTexts texts store now) (λ (_ : Vec (List ℕ) Global). AddsTexts texts store now) a e n k
             c.in_ok-id.id both),
         err_is c.from_residual-in_err-push.result Carry.Memory
-            (λ (r : Result (Vec (List ℕ) Global) CarryFault). IfOk r (λ ids. AreRenewals keys olds texts × (ids.items ≡ ids_under keys texts)))
+            (λ (r : Result (Vec (List ℕ) Global) CarryFault). IfOk r (λ ids. DrawsRenewals keys olds texts (g.E.Entropy.drawn c.args.entropy.now)
+            (g.E.Entropy.drawn c.add_record.new.entropy) × (ids.items ≡ ids_under keys texts)))
             c.from_residual-in_err-push.ensures.1 tt,
       ),
     )
@@ -173,8 +182,10 @@ returns-in_err-push-clause-refused g c =
     let a = g.D.Shelf.told c.args.depot.now in
     let e = g.D.Shelf.told c.add_record.new.depot in
     err_is c.from_residual-in_err-push.result Carry.Memory
-    (λ (r : Result (Vec (List ℕ) Global) CarryFault). IfErr r (λ (f : CarryFault). IfSome a (λ _. RefusesOneOf keys olds e f)))
-    c.from_residual-in_err-push.ensures.1 (told_any a (λ f. RefusesOneOf keys olds e Carry.Memory) (λ f. memory_one_of keys olds e))
+    (λ (r : Result (Vec (List ℕ) Global) CarryFault). IfErr r (λ (f : CarryFault). IfSome a (λ _. RefusesSome keys olds (g.E.Entropy.drawn c.args.entropy.now)
+    (g.E.Entropy.drawn c.add_record.new.entropy) e f)))
+    c.from_residual-in_err-push.ensures.1 (told_any a (λ f. RefusesSome keys olds (g.E.Entropy.drawn c.args.entropy.now)
+    (g.E.Entropy.drawn c.add_record.new.entropy) e Carry.Memory) (λ f. inl refl))
 
 pub returns-clause-added : goal.returns-clause-added
 returns-clause-added g c =
@@ -189,7 +200,9 @@ returns-clause-added g c =
             (λ (_ : Vec (List ℕ) Global). AddsTexts some.texts store now) (g.D.Shelf.told c.args.depot.now) (g.D.Shelf.told c.loop-place.depot)
             (g.D.Shelf.faults c.args.depot.now) (g.D.Shelf.faults c.loop-place.depot) tt c.loop-place.ids (λ h k e. e) (λ h k e. e) some.works,
         (
-          subst (λ (us : List Untagged). AreRenewals keys (olds_view us) some.texts) (take_all c.loop-place.place untagged (omega arith)) some.renewals,
+          subst (λ (us : List Untagged). DrawsRenewals keys (olds_view us) some.texts (g.E.Entropy.drawn c.args.entropy.now)
+              (g.E.Entropy.drawn c.loop-place.entropy))
+              (take_all c.loop-place.place untagged (omega arith)) some.drew,
           some.ids_are,
         ),
       ),

@@ -11,7 +11,7 @@ use Rattle.ferry_refs.specs.TagSteps.{KeepsRepo, olds_view}
 abbrev pub invariant-loop-place : goal.invariant-loop-place
 invariant-loop-place g l = record {
   added : AddedTexts (repo_view l.fn.store.repo).keys (olds_view (take l.place l.untagged)) l.ids.items l.fn.store l.store (g.D.Shelf.told l.fn.depot)
-      (g.D.Shelf.told l.depot) (g.D.Shelf.faults l.fn.depot) (g.D.Shelf.faults l.depot);
+      (g.D.Shelf.told l.depot) (g.D.Shelf.faults l.fn.depot) (g.D.Shelf.faults l.depot) (g.E.Entropy.drawn l.fn.entropy) (g.E.Entropy.drawn l.entropy);
   untold : Between (g.D.Shelf.told l.fn.depot) (g.D.Shelf.told l.depot) TellsNothing;
   repo : KeepsRepo (repo_view l.fn.store.repo) (repo_view l.store.repo);
   accepted : l.store.accepted ≡ l.fn.store.accepted;

@@ -4,7 +4,7 @@ use Rattle.ferry_manifest.specs.Manifest.Writing.{manifest_text}
 use Rattle.ferry_next.specs.Next.{written_at}
 use Rattle.ferry_refs.proofs.CommitLemmas.{leaves_both}
 use Rattle.ferry_refs.proofs.DropLemmas.{dropped_writing, untold_then}
-use Rattle.ferry_refs.proofs.FreeLemmas.{free_commit, free_drops, free_none, free_refused, freed_next}
+use Rattle.ferry_refs.proofs.FreeLemmas.{free_commit, free_drops, free_none, free_refused, freed_next, salt_drawn}
 use Rattle.ferry_refs.proofs.tagging.free_and_commit.Goals as goal
 use Rattle.ferry_refs.specs.TagSteps.{Frees, FreesSound, RefusesFreeing}
 use Rattle.ferry_repo.specs.Opening.{RepoState, repo_view}
@@ -86,3 +86,8 @@ returns-clause-refused g c =
     let text = manifest_text (repo_view now.repo).keys made.0 (written_at (accepted_in now) time) in
     free_refused now keys (written_at (accepted_in store) time) made.0 text c.commit.result made.1.0
     (ap (λ (r : RepoState). manifest_text r.keys made.0 r.manifest) (freed_next store now time c.drop_chunks.ensures.rest)) made.1.3
+
+pub returns-clause-drawn : goal.returns-clause-drawn
+returns-clause-drawn g c =
+    let made = c.commit.ensures.committed in
+    salt_drawn c.commit.result made.0 (g.E.Entropy.drawn c.args.entropy.now) (g.E.Entropy.drawn c.commit.new.entropy) made.1.0 made.1.1

@@ -1,4 +1,4 @@
-use Rattle.std.proofs.Common.{rules, ◌≡◌, ℕ, List, length, eqb-true, Result, Ok, Err, IfErr, IfSome, sym, ◌∙◌, ap, subst}
+use Rattle.std.proofs.Common.{rules, ◌≡◌, ℕ, List, length, eqb-true, Result, Ok, Err, IfErr, IfSome, refl, sym, ◌∙◌, ap, subst}
 use Rattle.std.proofs.lemmas.List.{length-map}
 use Rattle.std.specs.Option.{option_copied}
 use Rattle.std.specs.Vec.{vec_len}
@@ -32,8 +32,10 @@ returns-in_err-old-clause-works g c =
     let m = g.D.Shelf.faults c.read_old.new.depot in
     let refusal = c.in_err-old.field-0.0 in
     err_is c.from_residual.result (target_fault refusal)
-    (λ (r : Result ℕ CarryFault). Works (TagsSound time store) (λ count. Tags time store read count) a b n m r) c.from_residual.ensures.1
-    (works_unread _ (λ (count : ℕ). Tags time store read count) time store a b n m refusal c.in_err-old.ensures.untold c.in_err-old.ensures.did)
+    (λ (r : Result ℕ CarryFault). Works (TagsSound time store) (λ count. Tags time (g.E.Entropy.drawn c.args.entropy.now)
+    (g.E.Entropy.drawn c.args.entropy.now) store read count) a b n m r) c.from_residual.ensures.1
+    (works_unread _ (λ (count : ℕ). Tags time (g.E.Entropy.drawn c.args.entropy.now)
+    (g.E.Entropy.drawn c.args.entropy.now) store read count) time store a b n m refusal c.in_err-old.ensures.untold c.in_err-old.ensures.did)
 
 pub returns-in_err-old-clause-refused : goal.returns-in_err-old-clause-refused
 returns-in_err-old-clause-refused g c =
@@ -43,8 +45,9 @@ returns-in_err-old-clause-refused g c =
     let b = g.D.Shelf.told c.read_old.new.depot in
     let refusal = c.in_err-old.field-0.0 in
     err_is c.from_residual.result (target_fault refusal)
-    (λ (r : Result ℕ CarryFault). IfErr r (λ (f : CarryFault). IfSome a (λ t. RefusesTagging (told_files t) repo time b f))) c.from_residual.ensures.1
-    (reading_refused a b repo time refusal c.in_err-old.ensures.refused)
+    (λ (r : Result ℕ CarryFault). IfErr r (λ (f : CarryFault). IfSome a (λ t. RefusesTagging (told_files t) repo time (g.E.Entropy.drawn c.args.entropy.now)
+    (g.E.Entropy.drawn c.args.entropy.now) b f))) c.from_residual.ensures.1
+    (reading_refused a b repo time (g.E.Entropy.drawn c.args.entropy.now) (g.E.Entropy.drawn c.args.entropy.now) refusal c.in_err-old.ensures.refused)
 
 pub returns-in_err-old-clause-keeps : goal.returns-in_err-old-clause-keeps
 returns-in_err-old-clause-keeps g c =
@@ -64,9 +67,10 @@ returns-then-is_empty-clause-works g c =
     let same : vec_len old.untagged ≡ length old.untagged.items = search rules in
     let zero : vec_len old.untagged ≡ 0 = eqb-true (vec_len old.untagged) 0 (sym c.is_empty.ensures ∙ c.if-is_empty.true) in
     let none = no_items old.untagged.items (sym same ∙ zero) in
-    works_needless time store read (olds_view old.untagged.items) old.freed.items (g.D.Shelf.told c.args.depot.now) (g.D.Shelf.told c.read_old.new.depot)
+    works_needless time (g.E.Entropy.drawn c.args.entropy.now) (g.E.Entropy.drawn c.args.entropy.now) store read
+    (olds_view old.untagged.items) old.freed.items (g.D.Shelf.told c.args.depot.now) (g.D.Shelf.told c.read_old.new.depot)
     (g.D.Shelf.faults c.args.depot.now) (g.D.Shelf.faults c.read_old.new.depot) old
-    (ap (λ (us : List Untagged). olds_view us) none) c.in_ok-old.ensures.untold
+    refl (ap (λ (us : List Untagged). olds_view us) none) c.in_ok-old.ensures.untold
     (at_old store read old c.in_ok-old.ensures.did)
 
 pub returns-in_err-time-clause-works : goal.returns-in_err-time-clause-works
@@ -79,8 +83,10 @@ returns-in_err-time-clause-works g c =
     let n = g.D.Shelf.faults c.args.depot.now in
     let m = g.D.Shelf.faults c.read_old.new.depot in
     err_is c.from_residual-in_err-time.result Carry.Memory
-    (λ (r : Result ℕ CarryFault). Works (TagsSound time store) (λ count. Tags time store read count) a b n m r) c.from_residual-in_err-time.ensures.1
-    (works_untimed _ (λ (count : ℕ). Tags time store read count) time store a b n m c.in_ok-old.old c.in_ok-old.ensures.did)
+    (λ (r : Result ℕ CarryFault). Works (TagsSound time store) (λ count. Tags time (g.E.Entropy.drawn c.args.entropy.now)
+    (g.E.Entropy.drawn c.args.entropy.now) store read count) a b n m r) c.from_residual-in_err-time.ensures.1
+    (works_untimed _ (λ (count : ℕ). Tags time (g.E.Entropy.drawn c.args.entropy.now)
+    (g.E.Entropy.drawn c.args.entropy.now) store read count) time store a b n m c.in_ok-old.old c.in_ok-old.ensures.did)
 
 pub write_tagged-requires-clause-unspent : goal.write_tagged-requires-clause-unspent
 write_tagged-requires-clause-unspent g c = read_unspent c.args.store.now c.read_old.new.store c.in_ok-old.ensures.read c.requires.unspent
@@ -114,11 +120,14 @@ returns-in_err-write_tagged-clause-works g c =
     let time_is : c.deref.result.now ≡ time =
     c.deref.ensures.value ∙ (c.in_ok-time.ensures.time ∙ ap (λ (r : RepoState). time_of (option_copied c.args.timestamp) r.manifest) same) in
     err_is c.from_residual-in_err-write_tagged.result fault
-    (λ (r : Result ℕ CarryFault). Works (TagsSound time store) (λ count. Tags time store last count) a d n k r)
+    (λ (r : Result ℕ CarryFault). Works (TagsSound time store) (λ count. Tags time (g.E.Entropy.drawn c.args.entropy.now)
+    (g.E.Entropy.drawn c.write_tagged.new.entropy) store last count) a d n k r)
     c.from_residual-in_err-write_tagged.ensures.1
-    (works_untagged time store read last olds ids same {U = Unit {0}} a b d n m k old fault c.in_ok-old.ensures.untold
+    (works_untagged time (g.E.Entropy.drawn c.args.entropy.now) (g.E.Entropy.drawn c.write_tagged.new.entropy) store read last olds ids same
+    {U = Unit {0}} a b d n m k old fault c.in_ok-old.ensures.untold
     (at_old store read old c.in_ok-old.ensures.did)
-    (subst (λ (t : List ℕ). Works {T = Unit {0}} (SoundTagged t olds ids read) (λ _. TagsWith t olds ids read last) b d m k (Err fault)) time_is
+    (subst (λ (t : List ℕ). Works {T = Unit {0}} (SoundTagged t olds ids read) (λ _. TagsWith t (g.E.Entropy.drawn c.args.entropy.now)
+    (g.E.Entropy.drawn c.write_tagged.new.entropy) olds ids read last) b d m k (Err fault)) time_is
     c.in_err-write_tagged.ensures.works))
 
 pub returns-in_err-write_tagged-clause-untold : goal.returns-in_err-write_tagged-clause-untold
@@ -141,12 +150,16 @@ returns-in_err-write_tagged-clause-refused g c =
     let same = c.in_ok-old.ensures.read.repo in
     let time_is : c.deref.result.now ≡ time =
     c.deref.ensures.value ∙ (c.in_ok-time.ensures.time ∙ ap (λ (r : RepoState). time_of (option_copied c.args.timestamp) r.manifest) same) in
-    let refused = subst (λ (r : RepoState). IfSome b (λ _. RefusesWriting r time olds d fault)) same
-    (subst (λ (t : List ℕ). IfSome b (λ _. RefusesWriting (repo_view read.repo) t olds d fault)) time_is c.in_err-write_tagged.ensures.refused) in
+    let refused = subst (λ (r : RepoState). IfSome b (λ _. RefusesWriting r time olds (g.E.Entropy.drawn c.args.entropy.now)
+    (g.E.Entropy.drawn c.write_tagged.new.entropy) d fault)) same
+    (subst (λ (t : List ℕ). IfSome b (λ _. RefusesWriting (repo_view read.repo) t olds (g.E.Entropy.drawn c.args.entropy.now)
+    (g.E.Entropy.drawn c.write_tagged.new.entropy) d fault)) time_is c.in_err-write_tagged.ensures.refused) in
     err_is c.from_residual-in_err-write_tagged.result fault
-    (λ (r : Result ℕ CarryFault). IfErr r (λ (f : CarryFault). IfSome a (λ t. RefusesTagging (told_files t) repo time d f)))
+    (λ (r : Result ℕ CarryFault). IfErr r (λ (f : CarryFault). IfSome a (λ t. RefusesTagging (told_files t) repo time (g.E.Entropy.drawn c.args.entropy.now)
+    (g.E.Entropy.drawn c.write_tagged.new.entropy) d f)))
     c.from_residual-in_err-write_tagged.ensures.1
-    (told_writing_refused store read olds old.freed.items a b d time fault (at_old store read old c.in_ok-old.ensures.did).end refused)
+    (told_writing_refused store read olds old.freed.items a b (g.E.Entropy.drawn c.args.entropy.now)
+    (g.E.Entropy.drawn c.write_tagged.new.entropy) d time fault (at_old store read old c.in_ok-old.ensures.did).end refused)
 
 pub returns-in_err-write_tagged-clause-keeps : goal.returns-in_err-write_tagged-clause-keeps
 returns-in_err-write_tagged-clause-keeps g c =
@@ -163,7 +176,8 @@ returns-in_err-write_tagged-clause-keeps g c =
     err_is c.from_residual-in_err-write_tagged.result fault
     (λ (r : Result ℕ CarryFault). IfErr r (λ (f : CarryFault). IsOfWork f → Between a d (LeavesCommitted store)))
     c.from_residual-in_err-write_tagged.ensures.1
-    (λ work. untagged_keeps time store read read (olds_view old.untagged.items) old.freed.items c.in_ok-old.ensures.read.repo a b d n m old
+    (λ work. untagged_keeps time (g.E.Entropy.drawn c.args.entropy.now) (g.E.Entropy.drawn c.write_tagged.new.entropy) store read read
+    (olds_view old.untagged.items) old.freed.items c.in_ok-old.ensures.read.repo a b d n m old
     (at_old store read old c.in_ok-old.ensures.did) (c.in_err-write_tagged.ensures.keeps work))
 
 pub returns-clause-works : goal.returns-clause-works
@@ -185,9 +199,11 @@ returns-clause-works g c =
     let time_is : c.deref.result.now ≡ time =
     c.deref.ensures.value ∙ (c.in_ok-time.ensures.time ∙ ap (λ (r : RepoState). time_of (option_copied c.args.timestamp) r.manifest) same) in
     let count_is : c.len.result ≡ length old.untagged.items = search rules in
-    works_tagged time store read last olds ids same {U = Unit {0}} a b d n m k old tt c.len.result
+    works_tagged time (g.E.Entropy.drawn c.args.entropy.now) (g.E.Entropy.drawn c.write_tagged.new.entropy) store read last olds ids same
+    {U = Unit {0}} a b d n m k old tt c.len.result
     (count_is ∙ sym (length-map old.untagged.items old_view)) c.in_ok-old.ensures.untold (at_old store read old c.in_ok-old.ensures.did)
-    (subst (λ (t : List ℕ). Works {T = Unit {0}} (SoundTagged t olds ids read) (λ _. TagsWith t olds ids read last) b d m k (Ok tt)) time_is
+    (subst (λ (t : List ℕ). Works {T = Unit {0}} (SoundTagged t olds ids read) (λ _. TagsWith t (g.E.Entropy.drawn c.args.entropy.now)
+    (g.E.Entropy.drawn c.write_tagged.new.entropy) olds ids read last) b d m k (Ok tt)) time_is
     c.in_ok-write_tagged.ensures.works)
 
 pub returns-clause-untold : goal.returns-clause-untold

@@ -9,24 +9,26 @@ use Rattle.ferry_status.specs.Opened.{ChangesLeave}
 
 pub returns-in-Ok-clause-ended : goal.returns-in-Ok-clause-ended
 returns-in-Ok-clause-ended g c done =
-    tagged_ended (tagging c.args.secret.now c.args.timestamp) (g.D.Shelf.told c.args.target.now) (g.D.Shelf.told c.tag_and_tell.new.target)
+    tagged_ended (tagging c.args.secret.now c.args.timestamp (g.E.Entropy.drawn c.args.entropy.now) (g.E.Entropy.drawn c.tag_and_tell.new.entropy))
+    (g.D.Shelf.told c.args.target.now) (g.D.Shelf.told c.tag_and_tell.new.target)
     (g.D.Shelf.faults c.args.target.now) (g.D.Shelf.faults c.tag_and_tell.new.target) c.in-Ok.ensures.works
 
 pub returns-in-Ok-clause-left : goal.returns-in-Ok-clause-left
 returns-in-Ok-clause-left g c =
-    let asked = tagging c.args.secret.now c.args.timestamp in
+    let asked = tagging c.args.secret.now c.args.timestamp (g.E.Entropy.drawn c.args.entropy.now) (g.E.Entropy.drawn c.tag_and_tell.new.entropy) in
     between_map (g.D.Shelf.told c.args.target.now) (g.D.Shelf.told c.tag_and_tell.new.target) (TagEach asked)
     (ChangesLeave asked.secret (LeavesArchives asked.secret asked.timestamp)) (some_left asked)
     c.in-Ok.ensures.works.each
 
 pub returns-clause-left : goal.returns-clause-left
 returns-clause-left g c =
-    let asked = tagging c.args.secret.now c.args.timestamp in
+    let asked = tagging c.args.secret.now c.args.timestamp (g.E.Entropy.drawn c.args.entropy.now) (g.E.Entropy.drawn c.tag_and_tell.new.entropy) in
     between_map (g.D.Shelf.told c.args.target.now) (g.D.Shelf.told c.tag_and_tell.new.target) (TagEach asked)
     (ChangesLeave asked.secret (LeavesArchives asked.secret asked.timestamp)) (some_left asked)
     c.in-Err.ensures.works.each
 
 pub returns-clause-completes : goal.returns-clause-completes
 returns-clause-completes g c =
-    tags_done (tagging c.args.secret.now c.args.timestamp) (g.D.Shelf.told c.args.target.now) (g.D.Shelf.told c.tag_and_tell.new.target) _
+    tags_done (tagging c.args.secret.now c.args.timestamp (g.E.Entropy.drawn c.args.entropy.now) (g.E.Entropy.drawn c.tag_and_tell.new.entropy))
+    (g.D.Shelf.told c.args.target.now) (g.D.Shelf.told c.tag_and_tell.new.target) _
     (inr (record { fault = c.in-Err.fault; status_is = c.of_carry.ensures; refuses = c.in-Err.ensures.refused }))

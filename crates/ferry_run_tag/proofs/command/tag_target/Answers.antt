@@ -22,19 +22,19 @@ use Rattle.ferry_store.specs.Store.{OpenEach, OpenFits}
 
 pub returns-in_err-store-clause-works : goal.returns-in_err-store-clause-works
 returns-in_err-store-clause-works g c =
-    let asked = tagging c.args.secret.now c.args.timestamp.now in
+    let asked = tagging c.args.secret.now c.args.timestamp.now (g.E.Entropy.drawn c.args.entropy.now) (g.E.Entropy.drawn c.args.entropy.now) in
     let a = g.D.Shelf.told c.args.target.now in
     let b = g.D.Shelf.told c.open.new.depot in
     let n = g.D.Shelf.faults c.args.target.now in
     let m = g.D.Shelf.faults c.open.new.depot in
     let refusal = c.in_err-store.field-0.0 in
     err_is c.from_residual.result (target_fault refusal)
-    (λ (r : Result ℕ CarryFault). Works (TagEach asked) (GetsTags asked.secret asked.timestamp) a b n m r) c.from_residual.ensures.1
+    (λ (r : Result ℕ CarryFault). Works (TagEach asked) (GetsTags asked.secret asked.timestamp asked.drawn asked.drawn_now) a b n m r) c.from_residual.ensures.1
     (unopened_works asked OpenFits a b n m refusal c.in_err-store.ensures.untold c.in_err-store.ensures.did)
 
 pub returns-in_err-store-clause-kept : goal.returns-in_err-store-clause-kept
 returns-in_err-store-clause-kept g c =
-    let asked = tagging c.args.secret.now c.args.timestamp.now in
+    let asked = tagging c.args.secret.now c.args.timestamp.now (g.E.Entropy.drawn c.args.entropy.now) (g.E.Entropy.drawn c.args.entropy.now) in
     let a = g.D.Shelf.told c.args.target.now in
     let b = g.D.Shelf.told c.open.new.depot in
     err_is c.from_residual.result (target_fault c.in_err-store.field-0.0)
@@ -49,7 +49,7 @@ tag_archives-requires-clause-fits g c =
 
 pub returns-clause-works : goal.returns-clause-works
 returns-clause-works g c =
-    let asked = tagging c.args.secret.now c.args.timestamp.now in
+    let asked = tagging c.args.secret.now c.args.timestamp.now (g.E.Entropy.drawn c.args.entropy.now) (g.E.Entropy.drawn c.tag_archives.new.entropy) in
     let store = c.in_ok-store.store in
     let now = c.tag_archives.new.store in
     let manifest = (repo_view store.repo).manifest in
@@ -60,12 +60,12 @@ returns-clause-works g c =
     tagged_works asked store now (g.D.Shelf.told c.args.target.now) b d (g.D.Shelf.faults c.args.target.now) m k c.tag_archives.result
     c.in_ok-store.ensures.opened c.in_ok-store.ensures.untold c.in_ok-store.ensures.removes
     c.in_ok-store.ensures.did c.tag_archives.ensures.untold
-    (subst (λ (t : Option (List ℕ)). Works (TagsSound (time_of t manifest) store) (Tags (time_of t manifest) store now) b d m k
+    (subst (λ (t : Option (List ℕ)). Works (TagsSound (time_of t manifest) store) (Tags (time_of t manifest) asked.drawn asked.drawn_now store now) b d m k
     c.tag_archives.result) c.time_of-time.ensures c.tag_archives.ensures.works)
 
 pub returns-clause-refused : goal.returns-clause-refused
 returns-clause-refused g c =
-    let asked = tagging c.args.secret.now c.args.timestamp.now in
+    let asked = tagging c.args.secret.now c.args.timestamp.now (g.E.Entropy.drawn c.args.entropy.now) (g.E.Entropy.drawn c.tag_archives.new.entropy) in
     let store = c.in_ok-store.store in
     let repo = repo_view store.repo in
     let a = g.D.Shelf.told c.args.target.now in
@@ -73,13 +73,14 @@ returns-clause-refused g c =
     let d = g.D.Shelf.told c.tag_archives.new.depot in
     IfErr-weaker c.tag_archives.result _ _
     (λ fault refused. untagged_refused asked store a b d fault c.in_ok-store.ensures.opened c.in_ok-store.ensures.did.end
-    (subst (λ (t : Option (List ℕ)). IfSome b (λ u. RefusesTagging (told_files u) repo (time_of t repo.manifest) d fault)) c.time_of-time.ensures
+    (subst (λ (t : Option (List ℕ)). IfSome b (λ u. RefusesTagging (told_files u) repo
+    (time_of t repo.manifest) asked.drawn asked.drawn_now d fault)) c.time_of-time.ensures
     refused))
     c.tag_archives.ensures.refused
 
 pub returns-clause-kept : goal.returns-clause-kept
 returns-clause-kept g c =
-    let asked = tagging c.args.secret.now c.args.timestamp.now in
+    let asked = tagging c.args.secret.now c.args.timestamp.now (g.E.Entropy.drawn c.args.entropy.now) (g.E.Entropy.drawn c.tag_archives.new.entropy) in
     let store = c.in_ok-store.store in
     let now = c.tag_archives.new.store in
     let manifest = (repo_view store.repo).manifest in
@@ -92,7 +93,7 @@ returns-clause-kept g c =
     let works = tagged_works asked store now a b d n m k c.tag_archives.result
     c.in_ok-store.ensures.opened c.in_ok-store.ensures.untold c.in_ok-store.ensures.removes
     c.in_ok-store.ensures.did c.tag_archives.ensures.untold
-    (subst (λ (t : Option (List ℕ)). Works (TagsSound (time_of t manifest) store) (Tags (time_of t manifest) store now) b d m k
+    (subst (λ (t : Option (List ℕ)). Works (TagsSound (time_of t manifest) store) (Tags (time_of t manifest) asked.drawn asked.drawn_now store now) b d m k
     c.tag_archives.result) c.time_of-time.ensures c.tag_archives.ensures.works) in
     IfErr-weaker c.tag_archives.result _ _
     (λ fault keeps work. untagged_left asked store a b d n m c.in_ok-store.ensures.opened c.in_ok-store.ensures.untold
