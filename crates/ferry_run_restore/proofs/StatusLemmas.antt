@@ -1,8 +1,8 @@
 -- Lemmas on the statuses of specs/Restored.antt: which fault has which.
-use Rattle.std.proofs.Common.{◌≡◌, inl, inr, ℕ, List, [], ◌++◌, Option, Some, None, option_map, IfSome, Result, Ok, Err, false, refl, sym, subst}
+use Rattle.std.proofs.Common.{◌≡◌, inl, inr, ℕ, List, [], ◌++◌, Option, Some, None, option_map, IfSome, Result, Ok, Err, true, false, refl, sym, subst}
 use Rattle.std.proofs.Common.{ap, ◌∙◌}
 use Rattle.std.proofs.lemmas.List.{append-nil}
-use Rattle.ferry_disk.specs.Device.{Told, told_files}
+use Rattle.ferry_disk.specs.Device.{Rose, Told, told_files}
 use Rattle.ferry_disk.specs.Files.{Files}
 use Rattle.ferry_disk.specs.declared.sink.SinkFault.TheVariants as Sinks
 use Rattle.ferry_repo.specs.Fault.{IsOfFiles, repo_failed}
@@ -17,8 +17,8 @@ use Rattle.ferry_tree.specs.Nodes.{Planted}
 use Rattle.ferry_tree.specs.Restoring.{RefusesArchive}
 use Rattle.ferry_tree.specs.declared.fault.RestoreFault.{RestoreFault}
 use Rattle.ferry_tree.specs.declared.fault.RestoreFault.TheVariants as Faults
-use Rattle.ferry_run_restore.specs.Restored.{source_failed, source_status, tree_failed}
-use Rattle.ferry_run_restore.specs.Restoring.{Answers, DoesWords, IsStatusOf, RefusesOpened, RefusesOpening}
+use Rattle.ferry_run_restore.specs.Restored.{output_failed, source_failed, source_status, tree_failed}
+use Rattle.ferry_run_restore.specs.Restoring.{Answers, DoesWords, IsStatusOf, RefusesOpened, RefusesOpening, Reports, Sends}
 use Rattle.ferry_run_restore.specs.declared.restored.Restored.{Restored}
 use Rattle.ferry_run_restore.specs.declared.restored.Restored.TheVariants as Ends
 
@@ -121,6 +121,34 @@ named_does words name shown told secret before after output printed ended is sam
 nothing_more : (before : Option (List ℕ)) → before ≡ option_map (λ w. w ++ []) before
 nothing_more None = refl
 nothing_more (Some bytes) = ap Some (sym (append-nil bytes))
+
+-- where a text was sent and the output failed, its count of faults rose
+pub sends_cause : (text : List ℕ) (before : Written) (ended : Restored) (after : Written) → Sends text before ended after → output_failed ended ≡ true
+    → Rose before.faults after.faults
+sends_cause text before Ends.OutputDevice after sent is = sent.1
+sends_cause text before Ends.Done after sent is = absurd (let no : ⊥ = cc in no)
+sends_cause text before Ends.Memory after sent is = absurd (let no : ⊥ = cc in no)
+sends_cause text before (Ends.Usage word) after sent is = absurd sent
+sends_cause text before Ends.SourceDevice after sent is = absurd sent
+sends_cause text before (Ends.Source fault) after sent is = absurd sent
+sends_cause text before (Ends.Place path fault) after sent is = absurd sent
+sends_cause text before (Ends.NotFound name) after sent is = absurd sent
+sends_cause text before Ends.TreeDevice after sent is = absurd sent
+sends_cause text before Ends.NotEmpty after sent is = absurd sent
+
+-- where the output failed, no fault line is written, so its count of faults stays
+pub sent_cause : (ended : Restored) (faults : ℕ) (between after : Written) → (output_failed ended ≡ true → Rose faults between.faults)
+    → Reports ended between after → output_failed ended ≡ true → Rose faults after.faults
+sent_cause Ends.OutputDevice faults between after rose same is = subst (λ (w : Written). Rose faults w.faults) (sym same) (rose is)
+sent_cause Ends.Done faults between after rose same is = absurd (let no : ⊥ = cc in no)
+sent_cause (Ends.Usage word) faults between after rose same is = absurd (let no : ⊥ = cc in no)
+sent_cause Ends.Memory faults between after rose same is = absurd (let no : ⊥ = cc in no)
+sent_cause Ends.SourceDevice faults between after rose same is = absurd (let no : ⊥ = cc in no)
+sent_cause (Ends.Source fault) faults between after rose same is = absurd (let no : ⊥ = cc in no)
+sent_cause (Ends.Place path fault) faults between after rose same is = absurd (let no : ⊥ = cc in no)
+sent_cause (Ends.NotFound name) faults between after rose same is = absurd (let no : ⊥ = cc in no)
+sent_cause Ends.TreeDevice faults between after rose same is = absurd (let no : ⊥ = cc in no)
+sent_cause Ends.NotEmpty faults between after rose same is = absurd (let no : ⊥ = cc in no)
 
 -- a line for which there was no memory
 pub unsent : (line : List ℕ) (output : Written) → IsSent line output output

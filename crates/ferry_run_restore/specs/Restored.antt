@@ -40,6 +40,11 @@ abbrev pub tree_failed : Restored → Bool
 tree_failed Ends.TreeDevice = true
 tree_failed ended = false
 
+-- whether a status is that of a failed output
+abbrev pub output_failed : Restored → Bool
+output_failed Ends.OutputDevice = true
+output_failed ended = false
+
 -- the number of a place fault
 abbrev pub place_number : PlaceFault → ℕ
 place_number Places.Path = 1

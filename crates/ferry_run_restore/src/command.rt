@@ -1,8 +1,8 @@
 //! The command that restores an archive.
-ghost use Rattle.std.specs.Prelude.{◌≡◌, ◌⊎◌, ℕ, map, string_bytes, IfErr, IfOk, IfSome, MatchResult, OnErr};
-ghost use Rattle.ferry_disk.specs.Device.{HasCause, KeepsTold, KeptWhere, RoseWhere, heard, told_files};
+ghost use Rattle.std.specs.Prelude.{◌≡◌, ◌⊎◌, ℕ, false, map, string_bytes, true, IfErr, IfOk, IfSome, MatchResult, OnErr};
+ghost use Rattle.ferry_disk.specs.Device.{HasCause, KeepsTold, KeptWhere, Rose, RoseWhere, heard, told_files};
 ghost use Rattle.ferry_repo.specs.Opening.{FitsRepo, cached_in, repo_view};
-ghost use Rattle.ferry_run_restore.specs.Restored.{counts_line, source_failed, tree_failed};
+ghost use Rattle.ferry_run_restore.specs.Restored.{counts_line, output_failed, source_failed, tree_failed};
 ghost use Rattle.ferry_run_restore.specs.Restoring.{Answers, DoesWords, IsStatusOf, RefusesOpened, RefusesRestoring, Runs, Sends, WhereOpen};
 ghost use Rattle.ferry_status.specs.Devices.{written};
 ghost use Rattle.ferry_tree.specs.Restoring.{PartOfArchive, RestoresArchive};
@@ -43,6 +43,7 @@ pub fn restore<S: Shelf, T: Tree, K: Sink>(
     ensures same { KeptWhere (source_failed result) (heard (S.told source.old)) (S.told source.new) }
     ensures cause { RoseWhere (source_failed result) (S.faults source.old) (S.faults source.new) }
     ensures tree_cause { RoseWhere (tree_failed result) (T.faults tree.old) (T.faults tree.new) }
+    ensures output_cause { output_failed result ≡ true → Rose (K.faults out.old) (K.faults out.new) }
 {
     let ended = answer(alloc, words, secret, source, tree, out);
     report(alloc, &ended, out);
@@ -66,6 +67,7 @@ fn answer<S: Shelf, T: Tree, K: Sink>(
     ensures same { KeptWhere (source_failed result) (heard (S.told source.old)) (S.told source.new) }
     ensures cause { RoseWhere (source_failed result) (S.faults source.old) (S.faults source.new) }
     ensures tree_cause { RoseWhere (tree_failed result) (T.faults tree.old) (T.faults tree.new) }
+    ensures output_cause { output_failed result ≡ true → Rose (K.faults out.old) (K.faults out.new) }
 {
     match read_restore(alloc, words) {
         Ok(name) => restore_named(alloc, secret, name.as_slice(), source, tree, out),
@@ -89,6 +91,7 @@ fn restore_named<S: Shelf, T: Tree, K: Sink>(
     ensures same { KeptWhere (source_failed result) (heard (S.told source.old)) (S.told source.new) }
     ensures cause { RoseWhere (source_failed result) (S.faults source.old) (S.faults source.new) }
     ensures tree_cause { RoseWhere (tree_failed result) (T.faults tree.old) (T.faults tree.new) }
+    ensures output_cause { output_failed result ≡ true → Rose (K.faults out.old) (K.faults out.new) }
 {
     match restore_from(alloc, secret, name, source, tree) {
         Ok(counts) => print(alloc, &counts, out),
@@ -110,6 +113,7 @@ fn restore_from<S: Shelf, T: Tree>(
         PartOfArchive (S.told source.old) repo name.now (T.told tree.old) (T.told tree.new))) }
     ensures refused { IfErr result (RefusesRestoring (S.told source.old) secret.now name.now (T.told tree.old)) }
     ensures used { IfErr result (λ ended. (n : ℕ) → ended ≡ Restored.Usage n → ⊥) }
+    ensures quiet { IfErr result (λ ended. output_failed ended ≡ false) }
     ensures same { KeepsTold source_failed (S.told source.old) (S.told source.new) result }
     ensures cause { HasCause source_failed (S.faults source.old) (S.faults source.new) result }
     ensures tree_cause { HasCause tree_failed (T.faults tree.old) (T.faults tree.new) result }
@@ -137,6 +141,7 @@ fn restore_opened<S: Shelf, T: Tree>(
     ensures refused { IfErr result (λ ended. IfSome (S.told source.old) (λ t.
         RefusesOpened (told_files t) (repo_view repo.old) name.now (T.told tree.old) ended)) }
     ensures used { IfErr result (λ ended. (n : ℕ) → ended ≡ Restored.Usage n → ⊥) }
+    ensures quiet { IfErr result (λ ended. output_failed ended ≡ false) }
     ensures same { KeepsTold source_failed (S.told source.old) (S.told source.new) result }
     ensures cause { HasCause source_failed (S.faults source.old) (S.faults source.new) result }
     ensures tree_cause { HasCause tree_failed (T.faults tree.old) (T.faults tree.new) result }
@@ -151,6 +156,7 @@ fn restore_opened<S: Shelf, T: Tree>(
 fn of_restore(alloc: Global, fault: RestoreFault, name: &[u8]) -> Restored
     ensures status { IsStatusOf fault name.now result }
     ensures used { (n : ℕ) → result ≡ Restored.Usage n → ⊥ }
+    ensures quiet { output_failed result ≡ false }
 {
     match fault {
         RestoreFault::Source(fault) => of_source(fault),

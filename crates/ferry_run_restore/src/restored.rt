@@ -1,6 +1,6 @@
 //! How a restoring ended.
-ghost use Rattle.std.specs.Prelude.{◌≡◌};
-ghost use Rattle.ferry_run_restore.specs.Restored.{place_number, restored_number, source_status};
+ghost use Rattle.std.specs.Prelude.{◌≡◌, false};
+ghost use Rattle.ferry_run_restore.specs.Restored.{output_failed, place_number, restored_number, source_status};
 
 use ferry_base::Bytes;
 use ferry_repo::RepoFault;
@@ -53,7 +53,8 @@ impl Restored {
 
 /// The status of a source that doesn't read.
 pub(crate) fn of_source(fault: RepoFault) -> Restored
-    ensures { result ≡ source_status fault }
+    ensures status { result ≡ source_status fault }
+    ensures quiet { output_failed result ≡ false }
 {
     match fault {
         RepoFault::Device => Restored::SourceDevice,
