@@ -38,11 +38,11 @@ new_session limit number = record { limit = limit; after = Some number; last = S
 pub run_begun : (state : LogState) (chosen : List ℕ) (limit number : ℕ) (session : Session) (a b : Option Told) (n m : ℕ) → number ≡ state.transaction
     → session ≡ new_session limit number → Between a b (BeginKeeps (Some number)) → Between a b (ClearsAll (Some number)) → Between a b SettlesFirst
     → Between a b BeginBrings → Between a b KeepsPlain → Between a b TellsNothing → Between a b (Begins (Some number) session)
-    → Between a b (BeginsRows session) → m ≡ n → failed_told b ≡ failed_told a → Goes state chosen (Begun state session) a b n m (Ok tt)
+    → Between a b (BeginsRows session) → m ≡ n → failed_told b ≡ failed_told a → Goes state chosen (Begun limit state session) a b n m (Ok tt)
 run_begun state chosen limit number session a b n m same =
     subst (λ (k : ℕ). session ≡ new_session limit k → Between a b (BeginKeeps (Some k)) → Between a b (ClearsAll (Some k)) → Between a b SettlesFirst
     → Between a b BeginBrings → Between a b KeepsPlain → Between a b TellsNothing → Between a b (Begins (Some k) session)
-    → Between a b (BeginsRows session) → m ≡ n → failed_told b ≡ failed_told a → Goes state chosen (Begun state session) a b n m (Ok tt)) (sym same)
+    → Between a b (BeginsRows session) → m ≡ n → failed_told b ≡ failed_told a → Goes state chosen (Begun limit state session) a b n m (Ok tt)) (sym same)
     (begin_did state chosen limit session a b n m)
 
 pub run_unbegun : (state : LogState) (chosen : List ℕ) (number : ℕ) (Q : History → History → Type 0) (fault : WriteFault) (a b : Option Told) (n m : ℕ)
@@ -64,26 +64,27 @@ idle_as transaction number chosen these result answer e f is same =
 
 -- ---- the removals
 
-pub passes_removed : (state : LogState) (threshold : ℕ) (chosen : List ℕ) → chosen ≡ chosen_in threshold state.extents
+pub passes_removed : (limit : ℕ) (state : LogState) (threshold : ℕ) (chosen : List ℕ) → chosen ≡ chosen_in threshold state.extents
     → (begin b c : Option Told) (first m k : ℕ) → Ran {T = Unit {0}} (map RemoveOf chosen) b c m k (Ok tt)
-    → Goes state (chosen_in threshold state.extents) (IsClosed state (chosen_in threshold state.extents)) begin b first m (Ok tt)
-    → Goes state (chosen_in threshold state.extents) (MovedAll state (chosen_in threshold state.extents)) begin c first k (Ok tt)
-passes_removed state threshold chosen is begin b c first m k ran goes =
-    removal_did state threshold begin b c first m k
+    → Goes state (chosen_in threshold state.extents) (IsClosed limit state (chosen_in threshold state.extents)) begin b first m (Ok tt)
+    → Goes state (chosen_in threshold state.extents) (MovedAll limit state (chosen_in threshold state.extents)) begin c first k (Ok tt)
+passes_removed limit state threshold chosen is begin b c first m k ran goes =
+    removal_did limit state threshold begin b c first m k
     (subst (λ (numbers : List ℕ). Ran {T = Unit {0}} (map RemoveOf numbers) b c m k (Ok tt)) is ran) goes
 
-pub passes_left : (state : LogState) (threshold : ℕ) (chosen : List ℕ) → chosen ≡ chosen_in threshold state.extents → (Q : History → History → Type 0)
+pub passes_left : (limit : ℕ) (state : LogState) (threshold : ℕ) (chosen : List ℕ) → chosen ≡ chosen_in threshold state.extents
+    → (Q : History → History → Type 0)
     → (fault : WriteFault) (begin b c : Option Told) (first m k : ℕ) → (fault ≡ Writes.Numbers → ⊥)
     → Ran {T = Unit {0}} (map RemoveOf chosen) b c m k (Err fault)
-    → Goes state (chosen_in threshold state.extents) (IsClosed state (chosen_in threshold state.extents)) begin b first m (Ok tt)
+    → Goes state (chosen_in threshold state.extents) (IsClosed limit state (chosen_in threshold state.extents)) begin b first m (Ok tt)
     → Goes state (chosen_in threshold state.extents) Q begin c first k (Err (write_fault fault))
-passes_left state threshold chosen is Q fault begin b c first m k off ran goes =
-    removal_refused state threshold Q fault begin b c first m k off
+passes_left limit state threshold chosen is Q fault begin b c first m k off ran goes =
+    removal_refused limit state threshold Q fault begin b c first m k off
     (subst (λ (numbers : List ℕ). Ran {T = Unit {0}} (map RemoveOf numbers) b c m k (Err fault)) is ran) goes
 
 -- ---- the passes over the segments
 
-module _ (state : LogState) (threshold : ℕ) (extents : List Extent) (chosen : List ℕ) (of : extents ≡ state.extents)
+module _ (limit : ℕ) (state : LogState) (threshold : ℕ) (extents : List Extent) (chosen : List ℕ) (of : extents ≡ state.extents)
     (is : chosen ≡ chosen_in threshold state.extents) where
   -- what was chosen
   abbrev these : List ℕ
@@ -94,19 +95,19 @@ module _ (state : LogState) (threshold : ℕ) (extents : List Extent) (chosen : 
 
   pub passes_noted : {T : Type 0} (notes : Notes) (session : Session) (x : T) (begin b c : Option Told) (first m k : ℕ)
       → ((files : Files) → Tells b files → NotesAll state extents chosen notes files) → KeepsTold compact_failed b c (Ok x) → k ≡ m
-      → Goes state these (Begun state session) begin b first m (Ok tt) → Goes state these (Noted state these notes session) begin c first k (Ok tt)
+      → Goes state these (Begun limit state session) begin b first m (Ok tt) → Goes state these (Noted limit state these notes session) begin c first k (Ok tt)
   passes_noted {T} notes session x begin b c first m k known same caused goes =
-      notes_did state threshold notes session begin b c first m k goes
+      notes_did limit state threshold notes session begin b c first m k goes
       (read_ok {T = T} (NotesAll state state.extents these notes) (λ f h g. ⊥) b c m k x same caused
       (λ files tells. under (λ es numbers. NotesAll state es numbers notes files) (known files tells)))
 
   pub passes_refused : (session : Session) (Q : History → History → Type 0) (fault : CompactFault) (begin b c : Option Told) (first m k : ℕ)
       → ((files : Files) → Tells b files → (entries : List Located) → Covers files extents entries
       → IsStrictlyIncreasing chosen → IsOutside fault) → KeptWhere (compact_failed fault) (heard b) c
-      → RoseWhere (compact_failed fault) m k → Goes state these (Begun state session) begin b first m (Ok tt)
+      → RoseWhere (compact_failed fault) m k → Goes state these (Begun limit state session) begin b first m (Ok tt)
       → Goes state these Q begin c first k (Err fault)
   passes_refused session Q fault begin b c first m k known same caused goes =
-      notes_refused state threshold session Q fault begin b c first m k goes
+      notes_refused limit state threshold session Q fault begin b c first m k goes
       (read_err (Unit {0}) Reads
       (λ f files. (entries : List Located) → Covers files state.extents entries → IsStrictlyIncreasing these → IsOutside f)
       b c m k fault same caused
@@ -115,8 +116,9 @@ module _ (state : LogState) (threshold : ℕ) (extents : List Extent) (chosen : 
 
   pub passes_moved : (notes : Notes) (session now : Session) (result : Result (Unit {0}) CompactFault) (begin b c : Option Told) (first m k : ℕ)
       → Did (EachOfLog extents chosen session) (MovesLog state notes extents chosen session now) (RefusesLog extents chosen session) b c m k result
-      → Goes state these (Noted state these notes session) begin b first m (Ok tt) → Goes state these (Written state these now) begin c first k result
+      → Goes state these (Noted limit state these notes session) begin b first m (Ok tt)
+      → Goes state these (Written limit state these now) begin c first k result
   passes_moved notes session now result begin b c first m k did goes =
-      move_did state threshold notes session now begin b c first m k result goes
+      move_did limit state threshold notes session now begin b c first m k result goes
       (under (λ es numbers. Did (EachOfLog es numbers session) (MovesLog state notes es numbers session now) (RefusesLog es numbers session) b c m k result)
       did)

@@ -2,8 +2,10 @@
 use Rattle.std.proofs.Common.{◌≡◌, ◌⊎◌, inl, inr, ℕ, suc, ◌<◌, ◌≤◌, true, false, not, List, [], ◌∷◌, ◌++◌, map}
 use Rattle.std.proofs.Common.{Option, Some, None, Ok, Err, refl, sym, ◌∙◌, ap, subst, arith}
 use Rattle.std.proofs.lemmas.List.{append-nil, append_assoc, append_cancel_left}
+use Rattle.std.specs.FinMap.{get}
 use Rattle.std.specs.List.{AllByRecursion}
 use Rattle.ferry_compact.proofs.CompactLemmas.{clears_stop, entries_live, known_blobs, so_later}
+use Rattle.ferry_compact.proofs.FillingLemmas.{commit_filled}
 use Rattle.ferry_compact.proofs.LiesLemmas.{LiesBelow, entries_in, have_lies, lies_one, lies_same, lies_split, log_lies}
 use Rattle.ferry_compact.proofs.ListLemmas.{all_each, all_map, filter_all, map-append}
 use Rattle.ferry_compact.proofs.LastLemmas.{live_after}
@@ -16,6 +18,7 @@ use Rattle.ferry_compact.proofs.WentLemmas.{gains_wider, write_is, write_refused
 use Rattle.ferry_compact.specs.Choice.{chosen_in}
 use Rattle.ferry_compact.specs.Compact.{MovesAll, ShowsLive, StayUpTo}
 use Rattle.ferry_compact.specs.Fault.{RefusesCompact, compact_failed, write_fault}
+use Rattle.ferry_compact.specs.Filling.{AreFilled}
 use Rattle.ferry_compact.specs.Moving.{is_among, left_in, moved_in}
 use Rattle.ferry_compact.specs.Runs.{EachRun, MovedAll, OpensAs, RefusesRun, SoFar, Stands, Written}
 use Rattle.ferry_compact.specs.Steps.{Did, IsPutAmong}
@@ -35,7 +38,7 @@ use Rattle.ferry_stops.proofs.NumberLemmas.{Rising}
 use Rattle.ferry_stops.proofs.TellLemmas.{untold_each}
 use Rattle.ferry_stops.specs.Blobs.{AllTraced, Gains}
 use Rattle.ferry_stops.specs.Chance.{EachStop}
-use Rattle.ferry_stops.specs.Entries.{HaveBelow, Shows, ShowsAt}
+use Rattle.ferry_stops.specs.Entries.{EndsAt, HaveBelow, Shows, ShowsAt}
 use Rattle.ferry_stops.specs.Tells.{TellsNoLine, TellsNothing}
 use Rattle.ferry_write.proofs.GainLemmas.{own_gains}
 use Rattle.ferry_write.proofs.LawLemmas.{fits_now}
@@ -102,16 +105,16 @@ either_live state threshold log h image opens (inr new) =
     (subst (λ (es : List LogEntry). ShowsAt image new.0 (Some es)) (append_assoc (entries_in log) (moved_in log chosen) (CommitEntry ∷ [])) new.1)
     (whole_live state threshold log h opens)
 
-commit_stays : (state : LogState) (log : List Located) (pending : List LogEntry) (session : Session) (h g i : History)
-    → Stands state log pending session h g → OnlyAppends session g i → StayUpTo state.transaction g i
-commit_stays state log pending session h g i stands appends n le =
+commit_stays : (limit : ℕ) (state : LogState) (log : List Located) (pending : List LogEntry) (session : Session) (h g i : History)
+    → Stands limit state log pending session h g → OnlyAppends session g i → StayUpTo state.transaction g i
+commit_stays limit state log pending session h g i stands appends n le =
     (appends (Some (entries_in log)) pending stands.writing.fits).below n
     (subst (λ (a : Option ℕ). n < behind a) (sym stands.writing.after_is) (omega (arith, le)))
 
-commit_next : (state : LogState) (threshold : ℕ) (log : List Located) (session : Session) (h g i : History) → OpensAs state log h
-    → Stands state log (moved_in log (chosen_in threshold state.extents)) session h g → CommitWent session g i
+commit_next : (limit : ℕ) (state : LogState) (threshold : ℕ) (log : List Located) (session : Session) (h g i : History) → OpensAs state log h
+    → Stands limit state log (moved_in log (chosen_in threshold state.extents)) session h g → CommitWent session g i
     → Next state.transaction (chosen_in threshold state.extents) log h g i
-commit_next state threshold log session h g i opens stands went =
+commit_next limit state threshold log session h g i opens stands went =
     let chosen = chosen_in threshold state.extents in
     let moved = moved_in log chosen in
     let fits = stands.writing.fits in
@@ -123,23 +126,24 @@ commit_next state threshold log session h g i opens stands went =
       gains = λ e.
           moments_map (Gains g (λ _. ⊥)) (Gains g (IsPutAmong (entries_in log))) g i
           (gains_wider g (λ _. ⊥) (IsPutAmong (entries_in log)) (λ blob no. absurd no)) (went.brings (Some (entries_in log)) moved fits (stands.rows e));
-      removes = none_removed state.transaction chosen g i (commit_stays state log moved session h g i stands went.appends);
+      removes = none_removed state.transaction chosen g i (commit_stays limit state log moved session h g i stands went.appends);
       plain = went.plain;
       untold = went.untold;
     }
 
 -- Behind the commit, before a segment is removed.
-pub record Closed (state : LogState) (chosen : List ℕ) (log : List Located) (before now : History) : Type 0 where
+pub record Closed (limit : ℕ) (state : LogState) (chosen : List ℕ) (log : List Located) (before now : History) : Type 0 where
   pub so : SoFar state.transaction before now
   pub back : List Located
   pub end : ℕ
   pub tail : entries_in back ≡ moved_in log chosen ++ CommitEntry ∷ []
   pub removing : Removing log back state.transaction end [] now
   pub shown : ShowsAt (files_now now) end (Some (committed_in log chosen))
+  pub filled : AreFilled limit (suc state.transaction) removing.last (files_now now)
   pub traced : before.acts ≡ [] → AllTraced now
 
-abbrev pub IsClosed : LogState → List ℕ → History → History → Type 0
-IsClosed state chosen before now = (log : List Located) → OpensAs state log before → Closed state chosen log before now
+abbrev pub IsClosed : ℕ → LogState → List ℕ → History → History → Type 0
+IsClosed limit state chosen before now = (log : List Located) → OpensAs state log before → Closed limit state chosen log before now
 
 -- what is committed, by places: the log, and what stands behind it
 closed_lies : (t end : ℕ) (log : List Located) (more : List LogEntry) (g : History) → suc t ≤ end → LiesBelow (files_now g) (suc t) log
@@ -164,16 +168,29 @@ record Ends (session now : Session) (entries : List LogEntry) (history : History
   pub end_is : behind now.after ≡ suc (behind session.last)
   pub fits : SessionFits now (Some entries) [] history
 
-closed_at : (state : LogState) (threshold : ℕ) (log : List Located) (session now : Session) (h g i : History) → OpensAs state log h
-    → Stands state log (moved_in log (chosen_in threshold state.extents)) session h g → CommitWent session g i
+-- the segments behind the last commit of before, once all is committed that was put
+commit_behind : (limit t : ℕ) (committed pending : List LogEntry) (session : Session) (g i : History) → SessionFits session (Some committed) pending g
+    → OnlyAppends session g i → AreFilled limit (suc t) (behind session.last) (files_now g)
+    → EndsAt (files_now i) (suc (behind session.last)) (committed ++ (pending ++ CommitEntry ∷ []))
+    → AreFilled limit (suc t) (behind session.last) (files_now i)
+commit_behind limit t committed pending session g i fits appends filled ends =
+    let end = behind session.last in
+    let at : ends.last ≡ end = (let e = ends.end_is in omega (arith, e)) in
+    commit_filled limit (suc t) end (files_now g) (files_now i) (committed ++ pending) ends.bytes filled fits.entries
+    (subst (HaveBelow (files_now i) (suc end)) (sym (append_assoc committed pending (CommitEntry ∷ []))) ends.entries_are)
+    (appends (Some committed) pending fits).longer
+    (subst (λ (n : ℕ). get (files_now i).segments n ≡ Some ends.bytes) at ends.there) ends.committed
+
+closed_at : (limit : ℕ) (state : LogState) (threshold : ℕ) (log : List Located) (session now : Session) (h g i : History) → OpensAs state log h
+    → Stands limit state log (moved_in log (chosen_in threshold state.extents)) session h g → CommitWent session g i
     → Ends session now (committed_in log (chosen_in threshold state.extents)) i → (h.acts ≡ [] → AllTraced i)
-    → Closed state (chosen_in threshold state.extents) log h i
-closed_at state threshold log session now h g i opens stands went ends traced =
+    → Closed limit state (chosen_in threshold state.extents) log h i
+closed_at limit state threshold log session now h g i opens stands went ends traced =
     let t = state.transaction in
     let chosen = chosen_in threshold state.extents in
     let moved = moved_in log chosen in
     let entries = committed_in log chosen in
-    let stays = commit_stays state log moved session h g i stands went.appends in
+    let stays = commit_stays limit state log moved session h g i stands went.appends in
     let more = moments_acts
     (EachStop (λ image. Shows image (Some (entries_in log)) ⊎ Shows image (Some ((entries_in log ++ moved) ++ CommitEntry ∷ [])))) g i
     (went.keeps (Some (entries_in log)) moved stands.writing.fits) in
@@ -204,6 +221,9 @@ closed_at state threshold log session now h g i opens stands went ends traced =
         high = all_map (λ (e : Located). suc t ≤ e.segment) (λ (e : Located). t < e.segment) (λ e le. omega (arith, le)) parts.0 parts.3;
       };
       shown = fits_now now (Some entries) [] i ends.fits;
+      filled = subst (λ (n : ℕ). AreFilled limit (suc t) n (files_now i)) (omega (arith, end_is, last_is))
+          (commit_behind limit t (entries_in log) moved session g i stands.writing.fits went.appends stands.fills.filled
+          (subst (λ (n : ℕ). EndsAt (files_now i) n entries) end_is commits));
       traced = traced;
     }
 
@@ -216,26 +236,27 @@ commit_ends log moved session now g i is fits commits = record {
       (commits (Some (entries_in log)) moved fits);
 }
 
-pub commit_did : (state : LogState) (threshold : ℕ) (session now : Session) (a b c : Option Told) (n m k : ℕ) → now ≡ after_commit session
+pub commit_did : (limit : ℕ) (state : LogState) (threshold : ℕ) (session now : Session) (a b c : Option Told) (n m k : ℕ) → now ≡ after_commit session
     → Between b c (KeepsOrCommits session) → Between b c (BringsNone session) → Between b c (OnlyAppends session) → Between b c KeepsPlain
     → Between b c TellsNothing → Between b c (Commits session now) → Between b c (KeepsRows session now) → Between b c AllDone → k ≡ m
     → failed_told c ≡ failed_told b
-    → Did (EachRun state (chosen_in threshold state.extents)) (Written state (chosen_in threshold state.extents) session) (RefusesRun state) a b n m (Ok tt)
-    → Did (EachRun state (chosen_in threshold state.extents)) (IsClosed state (chosen_in threshold state.extents)) (RefusesRun state) a c n k (Ok tt)
-commit_did state threshold session now a b c n m k is keeps brings appends plain untold commits rows done caused ends p =
+    → Did (EachRun state (chosen_in threshold state.extents)) (Written limit state (chosen_in threshold state.extents) session) (RefusesRun state) a b n m
+    (Ok tt)
+    → Did (EachRun state (chosen_in threshold state.extents)) (IsClosed limit state (chosen_in threshold state.extents)) (RefusesRun state) a c n k (Ok tt)
+commit_did limit state threshold session now a b c n m k is keeps brings appends plain untold commits rows done caused ends p =
     let chosen = chosen_in threshold state.extents in
     let went = commit_went session b c keeps brings appends plain untold in
-    did_then (EachRun state chosen) (Written state chosen session) (RefusesRun state) (CommitWent session)
+    did_then (EachRun state chosen) (Written limit state chosen session) (RefusesRun state) (CommitWent session)
     (λ h g. CommitWent session h g × (Commits session now h g × KeepsRows session now h g)) (λ f h g. ⊥)
-    (EachRun state chosen) (IsClosed state chosen) (RefusesRun state) a b c n m k (Ok tt)
+    (EachRun state chosen) (IsClosed limit state chosen) (RefusesRun state) a b c n m k (Ok tt)
     (λ h g i run d written step log opens.
     let stands = written log opens in
     run_then state.transaction chosen log h g i (known_blobs state log h opens) (run log opens) d stands.so
-    (commit_next state threshold log session h g i opens stands step))
+    (commit_next limit state threshold log session h g i opens stands step))
     (λ h g i run d written step log opens.
     let stands = written log opens in
     let moved = moved_in log chosen in
-    closed_at state threshold log session now h g i opens stands step.0
+    closed_at limit state threshold log session now h g i opens stands step.0
     (commit_ends log moved session now g i is stands.writing.fits step.1.0)
     (λ e. (step.1.1 (Some (entries_in log)) moved stands.writing.fits (stands.rows e)).traced))
     (λ fault h g i run written no log opens. absurd no)
@@ -250,21 +271,23 @@ commit_did state threshold session now a b c n m k is keeps brings appends plain
       cause = caused;
     })
 
-pub commit_refused : (state : LogState) (threshold : ℕ) (session : Session) (Q : History → History → Type 0) (fault : WriteFault) (a b c : Option Told)
+pub commit_refused : (limit : ℕ) (state : LogState) (threshold : ℕ) (session : Session) (Q : History → History → Type 0) (fault : WriteFault)
+    (a b c : Option Told)
     (n m k : ℕ) → Between b c (KeepsOrCommits session) → Between b c (BringsNone session) → Between b c (OnlyAppends session) → Between b c KeepsPlain
     → Between b c TellsNothing → (fault ≡ Writes.Numbers → AreUsedUp session.last) → RoseWhere (write_failed fault) m k
     → FailedWhere (write_failed fault) b c
-    → Did (EachRun state (chosen_in threshold state.extents)) (Written state (chosen_in threshold state.extents) session) (RefusesRun state) a b n m (Ok tt)
+    → Did (EachRun state (chosen_in threshold state.extents)) (Written limit state (chosen_in threshold state.extents) session) (RefusesRun state) a b n m
+    (Ok tt)
     → Did (EachRun state (chosen_in threshold state.extents)) Q (RefusesRun state) a c n k (Err (write_fault fault))
-commit_refused state threshold session Q fault a b c n m k keeps brings appends plain untold used caused ends p =
+commit_refused limit state threshold session Q fault a b c n m k keeps brings appends plain untold used caused ends p =
     let chosen = chosen_in threshold state.extents in
     let went = commit_went session b c keeps brings appends plain untold in
-    did_stopped (EachRun state chosen) (Written state chosen session) (RefusesRun state) (CommitWent session) (λ h g. ⊥) (λ f. CommitWent session)
+    did_stopped (EachRun state chosen) (Written limit state chosen session) (RefusesRun state) (CommitWent session) (λ h g. ⊥) (λ f. CommitWent session)
     (EachRun state chosen) Q (RefusesRun state) a b c n m k (write_fault fault)
     (λ h g i run d written step log opens.
     let stands = written log opens in
     run_then state.transaction chosen log h g i (known_blobs state log h opens) (run log opens) d stands.so
-    (commit_next state threshold log session h g i opens stands step))
+    (commit_next limit state threshold log session h g i opens stands step))
     (λ h g i run written step log opens.
     let stands = written log opens in
     write_refused state.transaction session fault g i used step.appends (entries_in log) (moved_in log chosen) stands.writing)
@@ -292,10 +315,10 @@ removal_lines : (numbers : List ℕ) → AllByRecursion TellsNoLine (map RemoveO
 removal_lines [] = tt
 removal_lines (n ∷ numbers) = (tt, removal_lines numbers)
 
-removal_next : (state : LogState) (threshold : ℕ) (log : List Located) (h g i : History) → OpensAs state log h
-    → Closed state (chosen_in threshold state.extents) log h g → StopsIn (map RemoveOf (chosen_in threshold state.extents)) g i
+removal_next : (limit : ℕ) (state : LogState) (threshold : ℕ) (log : List Located) (h g i : History) → OpensAs state log h
+    → Closed limit state (chosen_in threshold state.extents) log h g → StopsIn (map RemoveOf (chosen_in threshold state.extents)) g i
     → Next state.transaction (chosen_in threshold state.extents) log h g i
-removal_next state threshold log h g i opens closed stop =
+removal_next limit state threshold log h g i opens closed stop =
     let t = state.transaction in
     let chosen = chosen_in threshold state.extents in
     let steps = map RemoveOf chosen in
@@ -312,10 +335,10 @@ removal_next state threshold log h g i opens closed stop =
       untold = (stop_moments (TellsNothing g) steps g i (untold_each g g steps (removal_lines chosen) refl) stop).last;
     }
 
-removed_all : (state : LogState) (threshold : ℕ) (log : List Located) (h g i : History) → OpensAs state log h
-    → Closed state (chosen_in threshold state.extents) log h g → DoesAll (map RemoveOf (chosen_in threshold state.extents)) g i
-    → MovesAll log state.transaction (chosen_in threshold state.extents) h i
-removed_all state threshold log h g i opens closed does =
+removed_all : (limit : ℕ) (state : LogState) (threshold : ℕ) (log : List Located) (h g i : History) → OpensAs state log h
+    → Closed limit state (chosen_in threshold state.extents) log h g → DoesAll (map RemoveOf (chosen_in threshold state.extents)) g i
+    → MovesAll limit log state.transaction (chosen_in threshold state.extents) h i
+removed_all limit state threshold log h g i opens closed does =
     let t = state.transaction in
     let chosen = chosen_in threshold state.extents in
     let tail = moved_in log chosen ++ CommitEntry ∷ [] in
@@ -327,6 +350,9 @@ removed_all state threshold log h g i opens closed does =
     record {
       written = g;
       end = closed.end;
+      last = closed.removing.last;
+      end_is = closed.removing.end_is;
+      filled = closed.filled;
       shown = closed.shown;
       stay = closed.so.stays;
       removes = does;
@@ -342,19 +368,19 @@ removal_refuses Writes.Device files off = tt
 removal_refuses Writes.Memory files off = tt
 removal_refuses Writes.Numbers files off = absurd (off refl)
 
-pub removal_did : (state : LogState) (threshold : ℕ) (a b c : Option Told) (n m k : ℕ)
+pub removal_did : (limit : ℕ) (state : LogState) (threshold : ℕ) (a b c : Option Told) (n m k : ℕ)
     → Ran {T = Unit {0}} (map RemoveOf (chosen_in threshold state.extents)) b c m k (Ok tt)
-    → Did (EachRun state (chosen_in threshold state.extents)) (IsClosed state (chosen_in threshold state.extents)) (RefusesRun state) a b n m (Ok tt)
-    → Did (EachRun state (chosen_in threshold state.extents)) (MovedAll state (chosen_in threshold state.extents)) (RefusesRun state) a c n k (Ok tt)
-removal_did state threshold a b c n m k ran p =
+    → Did (EachRun state (chosen_in threshold state.extents)) (IsClosed limit state (chosen_in threshold state.extents)) (RefusesRun state) a b n m (Ok tt)
+    → Did (EachRun state (chosen_in threshold state.extents)) (MovedAll limit state (chosen_in threshold state.extents)) (RefusesRun state) a c n k (Ok tt)
+removal_did limit state threshold a b c n m k ran p =
     let chosen = chosen_in threshold state.extents in
     let steps = map RemoveOf chosen in
-    did_then (EachRun state chosen) (IsClosed state chosen) (RefusesRun state) (StopsIn steps) (DoesAll steps) (λ f h g. ⊥)
-    (EachRun state chosen) (MovedAll state chosen) (RefusesRun state) a b c n m k (Ok tt)
+    did_then (EachRun state chosen) (IsClosed limit state chosen) (RefusesRun state) (StopsIn steps) (DoesAll steps) (λ f h g. ⊥)
+    (EachRun state chosen) (MovedAll limit state chosen) (RefusesRun state) a b c n m k (Ok tt)
     (λ h g i run d closed stop log opens.
     run_then state.transaction chosen log h g i (known_blobs state log h opens) (run log opens) d (closed log opens).so
-    (removal_next state threshold log h g i opens (closed log opens) stop))
-    (λ h g i run d closed does log opens. removed_all state threshold log h g i opens (closed log opens) does)
+    (removal_next limit state threshold log h g i opens (closed log opens) stop))
+    (λ h g i run d closed does log opens. removed_all limit state threshold log h g i opens (closed log opens) does)
     (λ fault h g i run closed no log opens. absurd no)
     p
     (record {
@@ -365,18 +391,18 @@ removal_did state threshold a b c n m k ran p =
       cause = ran.cause;
     })
 
-pub removal_refused : (state : LogState) (threshold : ℕ) (Q : History → History → Type 0) (fault : WriteFault) (a b c : Option Told) (n m k : ℕ)
+pub removal_refused : (limit : ℕ) (state : LogState) (threshold : ℕ) (Q : History → History → Type 0) (fault : WriteFault) (a b c : Option Told) (n m k : ℕ)
     → (fault ≡ Writes.Numbers → ⊥) → Ran {T = Unit {0}} (map RemoveOf (chosen_in threshold state.extents)) b c m k (Err fault)
-    → Did (EachRun state (chosen_in threshold state.extents)) (IsClosed state (chosen_in threshold state.extents)) (RefusesRun state) a b n m (Ok tt)
+    → Did (EachRun state (chosen_in threshold state.extents)) (IsClosed limit state (chosen_in threshold state.extents)) (RefusesRun state) a b n m (Ok tt)
     → Did (EachRun state (chosen_in threshold state.extents)) Q (RefusesRun state) a c n k (Err (write_fault fault))
-removal_refused state threshold Q fault a b c n m k off ran p =
+removal_refused limit state threshold Q fault a b c n m k off ran p =
     let chosen = chosen_in threshold state.extents in
     let steps = map RemoveOf chosen in
-    did_stopped (EachRun state chosen) (IsClosed state chosen) (RefusesRun state) (StopsIn steps) (λ h g. ⊥) (λ f. StopsIn steps)
+    did_stopped (EachRun state chosen) (IsClosed limit state chosen) (RefusesRun state) (StopsIn steps) (λ h g. ⊥) (λ f. StopsIn steps)
     (EachRun state chosen) Q (RefusesRun state) a b c n m k (write_fault fault)
     (λ h g i run d closed stop log opens.
     run_then state.transaction chosen log h g i (known_blobs state log h opens) (run log opens) d (closed log opens).so
-    (removal_next state threshold log h g i opens (closed log opens) stop))
+    (removal_next limit state threshold log h g i opens (closed log opens) stop))
     (λ h g i run closed stop log opens. removal_refuses fault (files_now i) off)
     p
     (record {

@@ -4,6 +4,7 @@ use Rattle.std.proofs.Common.{Option, Some, None, Result, Ok, Err, refl, sym, �
 use Rattle.std.proofs.lemmas.List.{append-nil}
 use Rattle.std.specs.List.Sorted.{IsStrictlyIncreasing}
 use Rattle.ferry_compact.proofs.KeptLemmas.{shows_begun}
+use Rattle.ferry_compact.proofs.FillingLemmas.{fills_begun}
 use Rattle.ferry_compact.proofs.LiesLemmas.{entries_in}
 use Rattle.ferry_compact.proofs.LastLemmas.{blob_after}
 use Rattle.ferry_compact.proofs.MovingLemmas.{outside_refuses}
@@ -47,9 +48,9 @@ use Rattle.ferry_write.specs.declared.session.Session.{Session}
 
 -- ---- what is known of a run, wherever it ended
 
-stands_as : (state : LogState) (log : List Located) (pending : List LogEntry) (session : Session) (h g i : History) → i ≡ g
-    → Stands state log pending session h g → Stands state log pending session h i
-stands_as state log pending session h g i e s = subst (Stands state log pending session h) (sym e) s
+stands_as : (limit : ℕ) (state : LogState) (log : List Located) (pending : List LogEntry) (session : Session) (h g i : History) → i ≡ g
+    → Stands limit state log pending session h g → Stands limit state log pending session h i
+stands_as limit state log pending session h g i e s = subst (Stands limit state log pending session h) (sym e) s
 
 each_as : (state : LogState) (chosen : List ℕ) (h g i : History) → i ≡ g → EachRun state chosen h g → EachRun state chosen h i
 each_as state chosen h g i e each = subst (EachRun state chosen h) (sym e) each
@@ -124,7 +125,7 @@ fresh_writing t limit entries session g is fits = record {
 
 begin_stands : (state : LogState) (limit : ℕ) (session : Session) (h g : History)
     → session ≡ record { limit = limit; after = Some state.transaction; last = Some state.transaction; size = None; spent = false }
-    → Begins (Some state.transaction) session h g → ClearsAll (Some state.transaction) h g → BeginsRows session h g → Begun state session h g
+    → Begins (Some state.transaction) session h g → ClearsAll (Some state.transaction) h g → BeginsRows session h g → Begun limit state session h g
 begin_stands state limit session h g is begins clears rows log opens =
     let t = state.transaction in (
       record {
@@ -134,6 +135,7 @@ begin_stands state limit session h g is begins clears rows log opens =
         };
         writing = fresh_writing t limit (entries_in log) session g is (begins (Some (entries_in log)) (opens_shows state log h opens));
         rows = rows;
+        fills = fills_begun limit t session g is;
       },
       clears,
     )
@@ -143,7 +145,7 @@ pub begin_did : (state : LogState) (chosen : List ℕ) (limit : ℕ) (session : 
     → Between a b (BeginKeeps (Some state.transaction)) → Between a b (ClearsAll (Some state.transaction)) → Between a b SettlesFirst
     → Between a b BeginBrings → Between a b KeepsPlain → Between a b TellsNothing → Between a b (Begins (Some state.transaction) session)
     → Between a b (BeginsRows session) → m ≡ n → failed_told b ≡ failed_told a
-    → Did (EachRun state chosen) (Begun state session) (RefusesRun state) a b n m (Ok tt)
+    → Did (EachRun state chosen) (Begun limit state session) (RefusesRun state) a b n m (Ok tt)
 begin_did state chosen limit session a b n m is keeps clears first brings plain untold begins rows caused ends =
     let t = state.transaction in
     record {
@@ -151,7 +153,7 @@ begin_did state chosen limit session a b n m is keeps clears first brings plain 
           (begin_went t a b keeps (between_map a b (ClearsAll (Some t)) (ClearsSome (Some t))
           (λ h g. clears_stop (clear_steps (suc t) (files_now h)) h g) clears) first brings plain untold);
       end = between_map a b (λ h g. ClearsAll (Some t) h g × (Begins (Some t) session h g × BeginsRows session h g))
-          (λ h g. AllDone h g × Begun state session h g)
+          (λ h g. AllDone h g × Begun limit state session h g)
           (λ h g all. ((clear_steps (suc t) (files_now h), all.0), begin_stands state limit session h g is all.1.0 all.0 all.1.1))
           (between_both a b (ClearsAll (Some t)) (λ h g. Begins (Some t) session h g × BeginsRows session h g) clears
           (between_both a b (Begins (Some t) session) (BeginsRows session) begins rows));
@@ -198,9 +200,9 @@ abbrev pub NotesAll : LogState → List Extent → List ℕ → Notes → Files 
 NotesAll state extents chosen notes files = (entries : List Located) → Covers files extents entries → IsStrictlyIncreasing chosen
     → HasNotes state chosen entries notes
 
-abbrev pub Noted : LogState → List ℕ → Notes → Session → History → History → Type 0
-Noted state chosen notes session before now = (log : List Located) → OpensAs state log before
-    → Stands state log [] session before now × HasNotes state chosen log notes
+abbrev pub Noted : ℕ → LogState → List ℕ → Notes → Session → History → History → Type 0
+Noted limit state chosen notes session before now = (log : List Located) → OpensAs state log before
+    → Stands limit state log [] session before now × HasNotes state chosen log notes
 
 -- the segments of the log, as they are read later
 covers_later : (state : LogState) (log : List Located) (h g : History) → OpensAs state log h → StayUpTo state.transaction h g
@@ -208,36 +210,37 @@ covers_later : (state : LogState) (log : List Located) (h g : History) → Opens
 covers_later state log h g opens stays =
     covers_stay h g state.transaction state.extents log stays (opens_low state log h opens) (opens_covers state log h opens)
 
-pub notes_did : (state : LogState) (threshold : ℕ) (notes : Notes) (session : Session) (a b c : Option Told) (n m k : ℕ)
-    → Did (EachRun state (chosen_in threshold state.extents)) (Begun state session) (RefusesRun state) a b n m (Ok tt)
+pub notes_did : (limit : ℕ) (state : LogState) (threshold : ℕ) (notes : Notes) (session : Session) (a b c : Option Told) (n m k : ℕ)
+    → Did (EachRun state (chosen_in threshold state.extents)) (Begun limit state session) (RefusesRun state) a b n m (Ok tt)
     → Did Reads (λ h g. (g ≡ h) × NotesAll state state.extents (chosen_in threshold state.extents) notes (files_now h))
     (λ f h g. ⊥) b c m k (Ok tt)
-    → Did (EachRun state (chosen_in threshold state.extents)) (Noted state (chosen_in threshold state.extents) notes session) (RefusesRun state) a c n k
+    → Did (EachRun state (chosen_in threshold state.extents)) (Noted limit state (chosen_in threshold state.extents) notes session) (RefusesRun state) a c n k
     (Ok tt)
-notes_did state threshold notes session a b c n m k p r =
+notes_did limit state threshold notes session a b c n m k p r =
     let chosen = chosen_in threshold state.extents in
-    did_then (EachRun state chosen) (Begun state session) (RefusesRun state) Reads
+    did_then (EachRun state chosen) (Begun limit state session) (RefusesRun state) Reads
     (λ h g. (g ≡ h) × NotesAll state state.extents chosen notes (files_now h)) (λ f h g. ⊥)
-    (EachRun state chosen) (Noted state chosen notes session) (RefusesRun state) a b c n m k (Ok tt)
+    (EachRun state chosen) (Noted limit state chosen notes session) (RefusesRun state) a b c n m k (Ok tt)
     (λ h g i each done begun e. each_as state chosen h g i e each)
     (λ h g i each done begun known log opens.
     let stands = (begun log opens).0 in (
-      stands_as state log [] session h g i known.0 stands,
+      stands_as limit state log [] session h g i known.0 stands,
       known.1 log (covers_later state log h g opens stands.so.stays) (chosen_increase threshold state log h opens),
     ))
     (λ fault h g i each begun refuses log opens. absurd refuses)
     p r
 
 -- the notes can't be read
-pub notes_refused : (state : LogState) (threshold : ℕ) (session : Session) (Q : History → History → Type 0) (fault : CompactFault) (a b c : Option Told)
-    (n m k : ℕ) → Did (EachRun state (chosen_in threshold state.extents)) (Begun state session) (RefusesRun state) a b n m (Ok tt)
+pub notes_refused : (limit : ℕ) (state : LogState) (threshold : ℕ) (session : Session) (Q : History → History → Type 0) (fault : CompactFault)
+    (a b c : Option Told)
+    (n m k : ℕ) → Did (EachRun state (chosen_in threshold state.extents)) (Begun limit state session) (RefusesRun state) a b n m (Ok tt)
     → Did Reads Reads
     (λ f h g. (g ≡ h) × ((entries : List Located) → Covers (files_now h) state.extents entries → IsStrictlyIncreasing (chosen_in threshold state.extents)
     → IsOutside f)) b c m k (Err fault)
     → Did (EachRun state (chosen_in threshold state.extents)) Q (RefusesRun state) a c n k (Err fault)
-notes_refused state threshold session Q fault a b c n m k p r =
+notes_refused limit state threshold session Q fault a b c n m k p r =
     let chosen = chosen_in threshold state.extents in
-    did_stopped (EachRun state chosen) (Begun state session) (RefusesRun state) Reads Reads
+    did_stopped (EachRun state chosen) (Begun limit state session) (RefusesRun state) Reads Reads
     (λ f h g. (g ≡ h) × ((entries : List Located) → Covers (files_now h) state.extents entries → IsStrictlyIncreasing chosen → IsOutside f))
     (EachRun state chosen) Q (RefusesRun state) a b c n m k fault
     (λ h g i each done begun e. each_as state chosen h g i e each)
@@ -249,9 +252,9 @@ notes_refused state threshold session Q fault a b c n m k p r =
 
 -- ---- entries are put again
 
-over_log : (state : LogState) (threshold : ℕ) (log : List Located) (session : Session) (h g : History) → OpensAs state log h
-    → Stands state log [] session h g → OverLog state.transaction state.extents (chosen_in threshold state.extents) session log g
-over_log state threshold log session h g opens stands = record {
+over_log : (limit : ℕ) (state : LogState) (threshold : ℕ) (log : List Located) (session : Session) (h g : History) → OpensAs state log h
+    → Stands limit state log [] session h g → OverLog state.transaction state.extents (chosen_in threshold state.extents) session log g
+over_log limit state threshold log session h g opens stands = record {
   committed = entries_in log;
   pending = [];
   writing = stands.writing;
@@ -266,16 +269,17 @@ so_later t h g i more so stays acts = record {
   settles = λ e. settled_more g.acts i.acts more acts (so.settles e);
 }
 
-pub move_did : (state : LogState) (threshold : ℕ) (notes : Notes) (session now : Session) (a b c : Option Told) (n m k : ℕ)
+pub move_did : (limit : ℕ) (state : LogState) (threshold : ℕ) (notes : Notes) (session now : Session) (a b c : Option Told) (n m k : ℕ)
     (result : Result (Unit {0}) CompactFault)
-    → Did (EachRun state (chosen_in threshold state.extents)) (Noted state (chosen_in threshold state.extents) notes session) (RefusesRun state) a b n m (Ok tt)
+    → Did (EachRun state (chosen_in threshold state.extents)) (Noted limit state (chosen_in threshold state.extents) notes session) (RefusesRun state) a b n
+    m (Ok tt)
     → Did (EachOfLog state.extents (chosen_in threshold state.extents) session)
     (MovesLog state notes state.extents (chosen_in threshold state.extents) session now)
     (RefusesLog state.extents (chosen_in threshold state.extents) session) b c m k result
-    → Did (EachRun state (chosen_in threshold state.extents)) (Written state (chosen_in threshold state.extents) now) (RefusesRun state) a c n k result
-move_did state threshold notes session now a b c n m k result p q =
-    did_then (EachRun state chosen) (Noted state chosen notes session) (RefusesRun state) (EachOfLog state.extents chosen session) MovesWith
-    (RefusesLog state.extents chosen session) (EachRun state chosen) (Written state chosen now) (RefusesRun state) a b c n m k result each last refuses p
+    → Did (EachRun state (chosen_in threshold state.extents)) (Written limit state (chosen_in threshold state.extents) now) (RefusesRun state) a c n k result
+move_did limit state threshold notes session now a b c n m k result p q =
+    did_then (EachRun state chosen) (Noted limit state chosen notes session) (RefusesRun state) (EachOfLog state.extents chosen session) MovesWith
+    (RefusesLog state.extents chosen session) (EachRun state chosen) (Written limit state chosen now) (RefusesRun state) a b c n m k result each last refuses p
     (did_with (EachOfLog state.extents chosen session) (MovesLog state notes state.extents chosen session now) (RefusesLog state.extents chosen session)
     b c m k result q) where
       t : ℕ
@@ -287,11 +291,12 @@ move_did state threshold notes session now a b c n m k result p q =
       MovesWith : History → History → Type 0
       MovesWith g i = EachOfLog state.extents chosen session g i × MovesLog state notes state.extents chosen session now g i
 
-      each : (h g i : History) → EachRun state chosen h g → AllDone h g → Noted state chosen notes session h g → EachOfLog state.extents chosen session g i
+      each : (h g i : History) → EachRun state chosen h g → AllDone h g → Noted limit state chosen notes session h g
+          → EachOfLog state.extents chosen session g i
           → EachRun state chosen h i
       each h g i run done noted step log opens =
           let stands = (noted log opens).0 in
-          let went = step t log (over_log state threshold log session h g opens stands) in
+          let went = step t log (over_log limit state threshold log session h g opens stands) in
           run_then t chosen log h g i (known_blobs state log h opens) (run log opens) done stands.so (record {
             live = moments_map (EachStop (λ image. Shows image (Some (entries_in log)))) (EachStop (ShowsLive log)) g i
                 (λ x shows image left. entries_live log image (shows image left)) (went.shows (entries_in log) [] stands.writing);
@@ -301,11 +306,12 @@ move_did state threshold notes session now a b c n m k result p q =
             untold = went.untold;
           })
 
-      last : (h g i : History) → EachRun state chosen h g → AllDone h g → Noted state chosen notes session h g → MovesWith g i → Written state chosen now h i
+      last : (h g i : History) → EachRun state chosen h g → AllDone h g → Noted limit state chosen notes session h g → MovesWith g i
+          → Written limit state chosen now h i
       last h g i run done noted step log opens =
           let known = noted log opens in
           let stands = known.0 in
-          let over = over_log state threshold log session h g opens stands in
+          let over = over_log limit state threshold log session h g opens stands in
           let went = step.0 t log over in
           let moved = step.1 t log over in
           let more = moments_acts (EachStop (λ image. Shows image (Some (entries_in log)))) g i (went.shows (entries_in log) [] stands.writing) in
@@ -315,10 +321,11 @@ move_did state threshold notes session now a b c n m k result p q =
             so = so_later t h g i more.0 stands.so (went.stays (entries_in log) [] stands.writing) more.1;
             writing = subst (λ (es : List LogEntry). IsWriting t (entries_in log) es now i) same (moved.writing (entries_in log) [] stands.writing);
             rows = λ e. moved.rows (entries_in log) [] stands.writing (stands.rows e);
+            fills = moved.fills limit (entries_in log) [] stands.writing stands.fills;
           }
 
-      refuses : (fault : CompactFault) (h g i : History) → EachRun state chosen h g → Noted state chosen notes session h g
+      refuses : (fault : CompactFault) (h g i : History) → EachRun state chosen h g → Noted limit state chosen notes session h g
           → RefusesLog state.extents chosen session fault g i → RefusesRun state fault h i
       refuses fault h g i run noted no_more log opens =
           let stands = (noted log opens).0 in
-          no_more t log (over_log state threshold log session h g opens stands) (entries_in log) [] stands.writing
+          no_more t log (over_log limit state threshold log session h g opens stands) (entries_in log) [] stands.writing

@@ -43,7 +43,7 @@ log_run : (state : LogState) (chosen : List ℕ) (h g : History) (of : IsStateOf
     → Run state.transaction chosen of.log h g
 log_run state chosen h g of each = each of.log (record { is = of.is; places = of.places; learnt = of.learnt })
 
-module _ (state : LogState) (threshold : ℕ) (a b : Option Told) (n m : ℕ) (opened : IsOpened state a)
+module _ (limit : ℕ) (state : LogState) (threshold : ℕ) (a b : Option Told) (n m : ℕ) (opened : IsOpened state a)
     (each : Between a b (EachRun state (chosen_in threshold state.extents))) where
   abbrev chosen : List ℕ
   chosen = chosen_in threshold state.extents
@@ -58,7 +58,7 @@ module _ (state : LogState) (threshold : ℕ) (a b : Option Told) (n m : ℕ) (o
       (λ h g of run log e is. (run log (opens_as state log h of is)).live e) each
 
   pub clauses_err : (Q : History → History → Type 0) (fault : CompactFault) → Did (EachRun state chosen) Q (RefusesRun state) a b n m (Err fault)
-      → Clauses state threshold a b n m (Err fault)
+      → Clauses limit state threshold a b n m (Err fault)
   clauses_err Q fault did = record {
     compacted = tt;
     live = live_clause;
@@ -73,8 +73,8 @@ module _ (state : LogState) (threshold : ℕ) (a b : Option Told) (n m : ℕ) (o
     ends = did.ends;
   }
 
-  pub clauses_ok : (count : ℕ) → Between a b (Compacts state threshold count) → m ≡ n → failed_told b ≡ failed_told a
-      → Clauses state threshold a b n m (Ok count)
+  pub clauses_ok : (count : ℕ) → Between a b (Compacts limit state threshold count) → m ≡ n → failed_told b ≡ failed_told a
+      → Clauses limit state threshold a b n m (Ok count)
   clauses_ok count compacted caused ends = record {
     compacted = compacted;
     live = live_clause;
@@ -90,20 +90,20 @@ module _ (state : LogState) (threshold : ℕ) (a b : Option Told) (n m : ℕ) (o
   }
 
 -- a run that a fault ended
-pub run_refused : (state : LogState) (threshold : ℕ) (Q : History → History → Type 0) (fault : CompactFault) (a b : Option Told) (n m : ℕ)
+pub run_refused : (limit : ℕ) (state : LogState) (threshold : ℕ) (Q : History → History → Type 0) (fault : CompactFault) (a b : Option Told) (n m : ℕ)
     → IsOpened state a → Did (EachRun state (chosen_in threshold state.extents)) Q (RefusesRun state) a b n m (Err fault)
-    → Clauses state threshold a b n m (Err fault)
-run_refused state threshold Q fault a b n m opened did = clauses_err state threshold a b n m opened did.each Q fault did
+    → Clauses limit state threshold a b n m (Err fault)
+run_refused limit state threshold Q fault a b n m opened did = clauses_err limit state threshold a b n m opened did.each Q fault did
 
 -- one in which nothing was to be gained
-pub run_idle : (state : LogState) (threshold : ℕ) (session : Session) (a b : Option Told) (n m : ℕ) → IsOpened state a
+pub run_idle : (limit : ℕ) (state : LogState) (threshold : ℕ) (session : Session) (a b : Option Told) (n m : ℕ) → IsOpened state a
     → is_idle state.transaction (chosen_in threshold state.extents) ≡ true
-    → Did (EachRun state (chosen_in threshold state.extents)) (Begun state session) (RefusesRun state) a b n m (Ok tt)
-    → Clauses state threshold a b n m (Ok 0)
-run_idle state threshold session a b n m opened idle did =
+    → Did (EachRun state (chosen_in threshold state.extents)) (Begun limit state session) (RefusesRun state) a b n m (Ok tt)
+    → Clauses limit state threshold a b n m (Ok 0)
+run_idle limit state threshold session a b n m opened idle did =
     let chosen = chosen_in threshold state.extents in
-    clauses_ok state threshold a b n m opened did.each 0
-    (opened_map state a b (λ h g. AllDone h g × Begun state session h g) (Compacts state threshold 0) opened
+    clauses_ok limit state threshold a b n m opened did.each 0
+    (opened_map state a b (λ h g. AllDone h g × Begun limit state session h g) (Compacts limit state threshold 0) opened
     (λ h g of end log is. record {
       idle = λ e. (refl, (end.1 log (opens_as state log h of is)).1);
       moved = λ e. never (is_idle state.transaction chosen) idle e;
@@ -111,14 +111,14 @@ run_idle state threshold session a b n m opened idle did =
     did.cause did.ends
 
 -- one that moved all
-pub run_moved : (state : LogState) (threshold count : ℕ) (a b : Option Told) (n m : ℕ) → IsOpened state a
+pub run_moved : (limit : ℕ) (state : LogState) (threshold count : ℕ) (a b : Option Told) (n m : ℕ) → IsOpened state a
     → is_idle state.transaction (chosen_in threshold state.extents) ≡ false → count ≡ length (chosen_in threshold state.extents)
-    → Did (EachRun state (chosen_in threshold state.extents)) (MovedAll state (chosen_in threshold state.extents)) (RefusesRun state) a b n m (Ok tt)
-    → Clauses state threshold a b n m (Ok count)
-run_moved state threshold count a b n m opened idle counted did =
+    → Did (EachRun state (chosen_in threshold state.extents)) (MovedAll limit state (chosen_in threshold state.extents)) (RefusesRun state) a b n m (Ok tt)
+    → Clauses limit state threshold a b n m (Ok count)
+run_moved limit state threshold count a b n m opened idle counted did =
     let chosen = chosen_in threshold state.extents in
-    clauses_ok state threshold a b n m opened did.each count
-    (opened_map state a b (λ h g. AllDone h g × MovedAll state chosen h g) (Compacts state threshold count) opened
+    clauses_ok limit state threshold a b n m opened did.each count
+    (opened_map state a b (λ h g. AllDone h g × MovedAll limit state chosen h g) (Compacts limit state threshold count) opened
     (λ h g of end log is. record {
       idle = λ e. never (is_idle state.transaction chosen) e idle;
       moved = λ e. (counted, end.1 log (opens_as state log h of is));

@@ -18,4 +18,5 @@ pub mod KeptLemmas
 pub mod CompactLemmas
 pub mod CommitLemmas
 pub mod EndLemmas
+pub mod FillingLemmas
 pub mod BodyLemmas

@@ -3,6 +3,7 @@ use Rattle.std.proofs.Common.{◌≡◌, inl, inr, ℕ, suc, ◌+◌, ◌<◌, �
 use Rattle.std.proofs.Common.{IsSome, Result, Ok, Err, refl, sym, ◌∙◌, ap, subst, append_assoc, arith}
 use Rattle.std.proofs.lemmas.List.{append-nil}
 use Rattle.std.specs.FinMap.{get}
+use Rattle.ferry_compact.proofs.FillingLemmas.{fills_more}
 use Rattle.ferry_compact.proofs.StepLemmas.{fail_where, moments_here, moments_map, moments_then, rose_where}
 use Rattle.ferry_compact.specs.Compact.{StayUpTo}
 use Rattle.ferry_compact.specs.Fault.{compact_failed, write_fault}
@@ -14,7 +15,7 @@ use Rattle.ferry_disk.specs.Device.{RoseWhere, Told}
 use Rattle.ferry_disk.specs.Faults.{FailedWhere, failed_told}
 use Rattle.ferry_disk.specs.Files.{Files}
 use Rattle.ferry_disk.specs.Moments.{Between, Moments}
-use Rattle.ferry_segment.specs.Entry.{LogEntry, PutEntry}
+use Rattle.ferry_segment.specs.Entry.{Fits, LogEntry, PutEntry, size_of}
 use Rattle.ferry_segment.specs.Segment.{magic, spellings}
 use Rattle.ferry_stops.proofs.TellLemmas.{untold_then}
 use Rattle.ferry_stops.specs.Blobs.{Gains}
@@ -138,6 +139,7 @@ moved_here t session h = record {
   writing = λ committed pending w.
       subst (λ (p : List LogEntry). IsWriting t committed p session h) (sym (append-nil pending)) w;
   rows = λ committed pending w rows. rows;
+  fills = λ limit committed pending w fills. fills;
 }
 
 pub moved_then : (t : ℕ) (old mid new : Session) (xs ys : List LogEntry) (h g i : History) → Moved t old mid xs h g → Moved t mid new ys g i
@@ -147,6 +149,8 @@ moved_then t old mid new xs ys h g i m n = record {
       subst (λ (p : List LogEntry). IsWriting t committed p new i) (append_assoc pending xs ys)
       (n.writing committed (pending ++ xs) (m.writing committed pending w));
   rows = λ committed pending w rows. n.rows committed (pending ++ xs) (m.writing committed pending w) (m.rows committed pending w rows);
+  fills = λ limit committed pending w fills.
+      n.fills limit committed (pending ++ xs) (m.writing committed pending w) (m.fills limit committed pending w fills);
 }
 
 pub refused_then : (t : ℕ) (old mid : Session) (moved : List LogEntry) (fault : CompactFault) (h g i : History) → Moved t old mid moved h g
@@ -190,9 +194,10 @@ entry_went t session entry h g call = record {
   untold = call.untold;
 }
 
-entry_moved : (t : ℕ) (session now : Session) (entry : LogEntry) (more : ℕ) (h g : History) → now ≡ after_entry session more → Puts session now entry h g
-    → KeepsRows session now h g → Moved t session now (entry ∷ []) h g
-entry_moved t session now entry more h g is puts rows = record {
+entry_moved : (t : ℕ) (session now : Session) (entry : LogEntry) (more : ℕ) (h g : History) → (Fits entry → size_of entry ≡ more)
+    → now ≡ after_entry session more → Puts session now entry h g → KeepsRows session now h g → OnlyAppends session h g
+    → Moved t session now (entry ∷ []) h g
+entry_moved t session now entry more h g size is puts rows appends = record {
   writing = λ committed pending w. record {
     fits = puts (Some committed) pending w.fits;
     after_is = ap (λ (s : Session). s.after) is ∙ w.after_is;
@@ -200,6 +205,8 @@ entry_moved t session now entry more h g is puts rows = record {
         let both : None ≡ Some ((room_of session more).at + more) = sym none ∙ ap (λ (s : Session). s.size) is in absurd (let no : ⊥ = cc in no);
   };
   rows = λ committed pending w known. rows (Some committed) pending w.fits known;
+  fills = λ limit committed pending w fills.
+      fills_more limit t more committed pending session now entry h g size is w (puts (Some committed) pending w.fits) appends fills;
 }
 
 -- ---- a call that is refused
@@ -259,16 +266,19 @@ write_is Writes.Numbers = refl
 
 -- ---- the calls
 
-pub put_did : (session now : Session) (entry : LogEntry) (more : ℕ) (a b : Option Told) (n m : ℕ) → Between a b (Keeps session)
+pub put_did : (session now : Session) (entry : LogEntry) (more : ℕ) (a b : Option Told) (n m : ℕ) → (Fits entry → size_of entry ≡ more)
+    → Between a b (Keeps session)
     → Between a b (Brings session entry) → Between a b (OnlyAppends session) → Between a b KeepsPlain → Between a b TellsNothing
     → Between a b (Puts session now entry) → Between a b (KeepsRows session now) → Between a b AllDone → now ≡ after_entry session more → m ≡ n
     → failed_told b ≡ failed_told a → Did (EachPut entry session) (PutsOne entry session now) (RefusesPut session) a b n m (Ok tt)
-put_did session now entry more a b n m keeps brings appends plain untold puts rows done is caused ends = record {
+put_did session now entry more a b n m size keeps brings appends plain untold puts rows done is caused ends = record {
   each = between_map a b (CallWent session entry) (EachPut entry session) (λ h g call t. entry_went t session entry h g call)
       (call_went session entry a b keeps brings appends plain untold);
   end = between_both a b AllDone (PutsOne entry session now) done
-      (between_map a b (λ h g. Puts session now entry h g × KeepsRows session now h g) (PutsOne entry session now)
-      (λ h g e t. entry_moved t session now entry more h g is e.0 e.1) (between_both a b (Puts session now entry) (KeepsRows session now) puts rows));
+      (between_map a b (λ h g. Puts session now entry h g × (KeepsRows session now h g × OnlyAppends session h g)) (PutsOne entry session now)
+      (λ h g e t. entry_moved t session now entry more h g size is e.0 e.1.0 e.1.1)
+      (between_both a b (Puts session now entry) (λ h g. KeepsRows session now h g × OnlyAppends session h g) puts
+      (between_both a b (KeepsRows session now) (OnlyAppends session) rows appends)));
   refuses = tt;
   ends = ends;
   cause = caused;

@@ -2,6 +2,7 @@
 use Rattle.std.specs.Prelude.{◌≡◌, ℕ, suc, ◌≤◌, true, false, List, [], ◌∷◌, ◌++◌, map, length, Some}
 use Rattle.std.specs.FinMap.{get}
 use Rattle.ferry_compact.specs.Choice.{chosen_in, is_idle}
+use Rattle.ferry_compact.specs.Filling.{AreFilled}
 use Rattle.ferry_compact.specs.Moving.{left_in, moved_in}
 use Rattle.ferry_disk.specs.Act.{History, RemoveOf, files_now}
 use Rattle.ferry_disk.specs.Files.{Files}
@@ -47,10 +48,14 @@ NumbersStay before now = before.acts ≡ [] → Moments KeepsNumbers before now
 abbrev pub StayUpTo : ℕ → History → History → Type 0
 StayUpTo transaction before now = (n : ℕ) → n ≤ transaction → get (files_now now).segments n ≡ get (files_now before).segments n
 
--- What is to be moved was put behind the log and committed, and then the chosen segments were removed, one after another, each before the next.
-pub record MovesAll (log : List Located) (transaction : ℕ) (chosen : List ℕ) (before now : History) : Type 0 where
+-- What is to be moved was put behind the log, in segments that are filled up to a limit, and committed behind them, and then the chosen segments were removed,
+-- one after another, each before the next.
+pub record MovesAll (limit : ℕ) (log : List Located) (transaction : ℕ) (chosen : List ℕ) (before now : History) : Type 0 where
   pub written : History
   pub end : ℕ
+  pub last : ℕ
+  pub end_is : end ≡ suc last
+  pub filled : AreFilled limit (suc transaction) last (files_now written)
   pub shown : ShowsAt (files_now written) end (Some (map (λ e. e.entry) log ++ (moved_in log chosen ++ CommitEntry ∷ [])))
   pub stay : StayUpTo transaction before written
   pub removes : DoesAll (map RemoveOf chosen) written now
@@ -58,13 +63,13 @@ pub record MovesAll (log : List Located) (transaction : ℕ) (chosen : List ℕ)
   pub live : ShowsLive log (files_now now)
 
 -- Where nothing is to be gained, a session was begun and nothing else done; and else all was moved. The count is that of the removed segments.
-pub record CompactsTo (log : List Located) (transaction : ℕ) (chosen : List ℕ) (count : ℕ) (before now : History) : Type 0 where
+pub record CompactsTo (limit : ℕ) (log : List Located) (transaction : ℕ) (chosen : List ℕ) (count : ℕ) (before now : History) : Type 0 where
   pub idle : is_idle transaction chosen ≡ true → (count ≡ 0) × DoesAll (clear_steps (suc transaction) (files_now before)) before now
-  pub moved : is_idle transaction chosen ≡ false → (count ≡ length chosen) × MovesAll log transaction chosen before now
+  pub moved : is_idle transaction chosen ≡ false → (count ≡ length chosen) × MovesAll limit log transaction chosen before now
 
-abbrev pub Compacts : LogState → ℕ → ℕ → History → History → Type 0
-Compacts state threshold count before now = (log : List Located) → IsLog (files_now before) state.transaction log
-    → CompactsTo log state.transaction (chosen_in threshold state.extents) count before now
+abbrev pub Compacts : ℕ → LogState → ℕ → ℕ → History → History → Type 0
+Compacts limit state threshold count before now = (log : List Located) → IsLog (files_now before) state.transaction log
+    → CompactsTo limit log state.transaction (chosen_in threshold state.extents) count before now
 
 -- ---- wherever it ends
 

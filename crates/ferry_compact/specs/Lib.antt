@@ -1,4 +1,5 @@
 pub mod Choice
+pub mod Filling
 pub mod Moving
 pub mod Compact
 pub mod Fault

@@ -4,6 +4,7 @@ use Rattle.std.specs.FinMap.{empty}
 use Rattle.ferry_compact.specs.Choice.{chosen_in}
 use Rattle.ferry_compact.specs.Compact.{Compacts, KeepsBlocks, KeepsLive, MovesAll, NumbersStay, RemovesFront, ShowsLive, StayUpTo}
 use Rattle.ferry_compact.specs.Fault.{RefusesCompact, compact_failed}
+use Rattle.ferry_compact.specs.Filling.{Fills}
 use Rattle.ferry_compact.specs.Moving.{moved_in}
 use Rattle.ferry_compact.specs.Steps.{Did, IsWriting}
 use Rattle.ferry_compact.specs.declared.fault.CompactFault.{CompactFault}
@@ -50,11 +51,12 @@ pub record SoFar (transaction : ℕ) (before now : History) : Type 0 where
   pub stays : StayUpTo transaction before now
   pub settles : before.acts ≡ [] → (rest : List Act) × (now.acts ≡ did SettleAll ∷ rest)
 
--- A session stands behind the log, with these entries put since.
-pub record Stands (state : LogState) (log : List Located) (pending : List LogEntry) (session : Session) (before now : History) : Type 0 where
+-- A session of this limit stands behind the log, with these entries put since.
+pub record Stands (limit : ℕ) (state : LogState) (log : List Located) (pending : List LogEntry) (session : Session) (before now : History) : Type 0 where
   pub so : SoFar state.transaction before now
   pub writing : IsWriting state.transaction (map (λ e. e.entry) log) pending session now
   pub rows : before.acts ≡ [] → SessionRows session now
+  pub fills : Fills limit state.transaction session now
 
 -- ---- what is known where a run ended, and where a fault ended it
 
@@ -71,17 +73,18 @@ Goes state chosen End begin now first after result = Did (EachRun state chosen) 
 -- ---- where a run stands
 
 -- A session was begun.
-abbrev pub Begun : LogState → Session → History → History → Type 0
-Begun state session before now = (log : List Located) → OpensAs state log before
-    → Stands state log [] session before now × DoesAll (clear_steps (suc state.transaction) (files_now before)) before now
+abbrev pub Begun : ℕ → LogState → Session → History → History → Type 0
+Begun limit state session before now = (log : List Located) → OpensAs state log before
+    → Stands limit state log [] session before now × DoesAll (clear_steps (suc state.transaction) (files_now before)) before now
 
 -- All that is to be moved was put again.
-abbrev pub Written : LogState → List ℕ → Session → History → History → Type 0
-Written state chosen session before now = (log : List Located) → OpensAs state log before → Stands state log (moved_in log chosen) session before now
+abbrev pub Written : ℕ → LogState → List ℕ → Session → History → History → Type 0
+Written limit state chosen session before now = (log : List Located) → OpensAs state log before
+    → Stands limit state log (moved_in log chosen) session before now
 
 -- All was moved, and the chosen segments are removed.
-abbrev pub MovedAll : LogState → List ℕ → History → History → Type 0
-MovedAll state chosen before now = (log : List Located) → OpensAs state log before → MovesAll log state.transaction chosen before now
+abbrev pub MovedAll : ℕ → LogState → List ℕ → History → History → Type 0
+MovedAll limit state chosen before now = (log : List Located) → OpensAs state log before → MovesAll limit log state.transaction chosen before now
 
 -- A body takes a run that stood so on to where it stands so.
 abbrev pub GoesOn : LogState → List ℕ → (History → History → Type 0) → (History → History → Type 0) → Option Told → Option Told → ℕ → ℕ
@@ -91,20 +94,21 @@ GoesOn state chosen From To before now count after result = (begin : Option Told
 
 -- The chosen segments of a log whose session was begun are moved and removed; those of a log of which all was put again are committed and removed.
 abbrev pub MovesChosen : LogState → List ℕ → Session → Option Told → Option Told → ℕ → ℕ → Result (Unit {0}) CompactFault → Type 0
-MovesChosen state chosen session before now count after result = (threshold : ℕ) → chosen ≡ chosen_in threshold state.extents
-    → GoesOn state (chosen_in threshold state.extents) (Begun state session) (MovedAll state (chosen_in threshold state.extents)) before now count after result
+MovesChosen state chosen session before now count after result = (limit threshold : ℕ) → chosen ≡ chosen_in threshold state.extents
+    → GoesOn state (chosen_in threshold state.extents) (Begun limit state session) (MovedAll limit state (chosen_in threshold state.extents)) before now
+    count after result
 
 abbrev pub CommitsChosen : List ℕ → Session → Option Told → Option Told → ℕ → ℕ → Result (Unit {0}) CompactFault → Type 0
-CommitsChosen chosen session before now count after result = (state : LogState) (threshold : ℕ) → chosen ≡ chosen_in threshold state.extents
-    → GoesOn state (chosen_in threshold state.extents) (Written state (chosen_in threshold state.extents) session)
-    (MovedAll state (chosen_in threshold state.extents)) before now count after result
+CommitsChosen chosen session before now count after result = (limit : ℕ) (state : LogState) (threshold : ℕ) → chosen ≡ chosen_in threshold state.extents
+    → GoesOn state (chosen_in threshold state.extents) (Written limit state (chosen_in threshold state.extents) session)
+    (MovedAll limit state (chosen_in threshold state.extents)) before now count after result
 
 -- ---- its end
 
 -- what `compact` promises
-abbrev pub Clauses : LogState → ℕ → Option Told → Option Told → ℕ → ℕ → Result ℕ CompactFault → Type 0
-Clauses state threshold before now count after result = record {
-  compacted : IfOk result (λ removed. Between before now (Compacts state threshold removed));
+abbrev pub Clauses : ℕ → LogState → ℕ → Option Told → Option Told → ℕ → ℕ → Result ℕ CompactFault → Type 0
+Clauses limit state threshold before now count after result = record {
+  compacted : IfOk result (λ removed. Between before now (Compacts limit state threshold removed));
   live : Between before now (KeepsLive state.transaction);
   kept : Between before now KeepsBlocks;
   numbers : Between before now NumbersStay;
@@ -119,6 +123,6 @@ Clauses state threshold before now count after result = record {
 
 -- A body ends a run that began with a session so that it keeps what `compact` promises.
 abbrev pub EndsRun : LogState → ℕ → Session → Option Told → Option Told → ℕ → ℕ → Result ℕ CompactFault → Type 0
-EndsRun state threshold session before now count after result = (begin : Option Told) (first : ℕ) → IsOpened state begin
-    → Goes state (chosen_in threshold state.extents) (Begun state session) begin before first count (Ok tt)
-    → Clauses state threshold begin now first after result
+EndsRun state threshold session before now count after result = (limit : ℕ) (begin : Option Told) (first : ℕ) → IsOpened state begin
+    → Goes state (chosen_in threshold state.extents) (Begun limit state session) begin before first count (Ok tt)
+    → Clauses limit state threshold begin now first after result

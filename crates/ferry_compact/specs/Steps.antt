@@ -4,6 +4,7 @@ use Rattle.std.specs.List.{AllByRecursion, filter}
 use Rattle.std.specs.List.Sorted.{IsStrictlyIncreasing}
 use Rattle.ferry_compact.specs.Compact.{StayUpTo}
 use Rattle.ferry_compact.specs.Fault.{RefusesCompact, compact_failed}
+use Rattle.ferry_compact.specs.Filling.{Fills}
 use Rattle.ferry_compact.specs.Moving.{is_among, lies_at}
 use Rattle.ferry_compact.specs.Reading.{Covers, HasEntry, HasSegment}
 use Rattle.ferry_compact.specs.Stays.{Notes, is_below, noted_at}
@@ -66,6 +67,8 @@ pub record Moved (transaction : ℕ) (old new : Session) (entries : List LogEntr
   pub writing : (committed pending : List LogEntry) → IsWriting transaction committed pending old before
       → IsWriting transaction committed (pending ++ entries) new now
   pub rows : (committed pending : List LogEntry) → IsWriting transaction committed pending old before → SessionRows old before → SessionRows new now
+  pub fills : (limit : ℕ) (committed pending : List LogEntry) → IsWriting transaction committed pending old before → Fills limit transaction old before
+      → Fills limit transaction new now
 
 -- what a fault says of the files as they are read behind it
 abbrev pub RefusesMove : ℕ → Session → CompactFault → History → History → Type 0

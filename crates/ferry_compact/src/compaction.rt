@@ -38,7 +38,7 @@ pub fn compact<D: Depot>(
 ) -> Result<u64, CompactFault>
     requires learnt { log.learnt ≡ empty }
     requires opened { IfSome (D.told depot.old) (λ t. IsStateOf (told_files t) log) }
-    ensures compacted { IfOk result (λ count. Between (D.told depot.old) (D.told depot.new) (Compacts log threshold count)) }
+    ensures compacted { IfOk result (λ count. Between (D.told depot.old) (D.told depot.new) (Compacts limit log threshold count)) }
     // Whatever a stop leaves, each key has the blob that it had, or none where it had none.
     ensures live { Between (D.told depot.old) (D.told depot.new) (KeepsLive log.transaction) }
     ensures kept { Between (D.told depot.old) (D.told depot.new) KeepsBlocks }

@@ -63,9 +63,9 @@ removed_done (n ∷ chosen) transaction h g w idle removes plain = (
       ap (λ (k : History). last_done k.acts) p.1 ∙ last_done-push (with_steps moments.steps h).acts (undone p.0) in
       let both : true ≡ false = sym ends ∙ undone_last in absurd (let no : ⊥ = cc in no)
 
-pub compacts_done : (state : LogState) (threshold count : ℕ) (h g : History) → IsStateOf (files_now h) state → KeepsPlain h g
-    → Compacts state threshold count h g → AllDone h g × AreSome g.acts
-compacts_done state threshold count h g is plain compacts = by_idle (is_idle state.transaction chosen) refl where
+pub compacts_done : (limit : ℕ) (state : LogState) (threshold count : ℕ) (h g : History) → IsStateOf (files_now h) state → KeepsPlain h g
+    → Compacts limit state threshold count h g → AllDone h g × AreSome g.acts
+compacts_done limit state threshold count h g is plain compacts = by_idle (is_idle state.transaction chosen) refl where
   chosen : List ℕ
   chosen = chosen_in threshold state.extents
 
@@ -82,5 +82,5 @@ pub record Knows (state : LogState) (threshold count : ℕ) (before now : Histor
   pub is : IsStateOf (files_now before) state
   pub config : Config
   pub settings : config_of (contents_at (files_now before) ConfigFile) ≡ Ok config
-  pub compacts : Compacts state threshold count before now
+  pub compacts : Compacts config.limit state threshold count before now
   pub some : AreSome now.acts

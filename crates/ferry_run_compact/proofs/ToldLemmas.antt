@@ -79,52 +79,61 @@ went_all state chosen a b c same is live kept numbers first removes plain =
     (between_both b c SettlesFirst (λ h g. RemovesFront state.transaction chosen h g × KeepsPlain h g) first
     (between_both b c (RemovesFront state.transaction chosen) KeepsPlain removes plain)))))
 
-settings_known : (a : Option Told) (state : LogState) → IfSome a (λ t. IsStateOf (told_files t) state)
-    → IfSome a (λ t. (config : Config) × (config_of (contents_at (told_files t) ConfigFile) ≡ Ok config))
-    → IfSome a (λ t. IsStateOf (told_files t) state × ((config : Config) × (config_of (contents_at (told_files t) ConfigFile) ≡ Ok config)))
-settings_known None state is config = tt
-settings_known (Some told) state is config = (is, config)
+settings_known : (limit : ℕ) (a : Option Told) (state : LogState) → IfSome a (λ t. IsStateOf (told_files t) state)
+    → IfSome a (λ t. (config : Config) × (config_of (contents_at (told_files t) ConfigFile) ≡ Ok config) × (limit ≡ config.limit))
+    → IfSome a (λ t. IsStateOf (told_files t) state
+    × ((config : Config) × (config_of (contents_at (told_files t) ConfigFile) ≡ Ok config) × (limit ≡ config.limit)))
+settings_known limit None state is config = tt
+settings_known limit (Some told) state is config = (is, config)
 
 -- the segments are compacted
-did_all_of : (state : LogState) (threshold count : ℕ) (a b c : Option Told) (n m k : ℕ) → Between a b (λ h g. g ≡ h)
+did_all_of : (limit : ℕ) (state : LogState) (threshold count : ℕ) (a b c : Option Told) (n m k : ℕ) → Between a b (λ h g. g ≡ h)
     → IfSome a (λ t. IsStateOf (told_files t) state)
-    → IfSome a (λ t. (config : Config) × (config_of (contents_at (told_files t) ConfigFile) ≡ Ok config))
-    → Between a c (Went state (chosen_in threshold state.extents)) → Between b c (Compacts state threshold count)
+    → IfSome a (λ t. (config : Config) × (config_of (contents_at (told_files t) ConfigFile) ≡ Ok config) × (limit ≡ config.limit))
+    → Between a c (Went state (chosen_in threshold state.extents)) → Between b c (Compacts limit state threshold count)
     → failed_told b ≡ failed_told a → failed_told c ≡ failed_told b → m ≡ n → k ≡ m
     → Did CompactEach (Knows state threshold) a c n k (Ok count)
-did_all_of state threshold count a b c n m k same is config went compacts ended ends read caused =
+did_all_of limit state threshold count a b c n m k same is config went compacts ended ends read caused =
     let chosen = chosen_in threshold state.extents in
-    let Settings : Files → Type 0 = λ f. IsStateOf f state × ((config : Config) × (config_of (contents_at f ConfigFile) ≡ Ok config)) in
-    let All : History → History → Type 0 = λ h g. Settings (files_now h) × (Went state chosen h g × Compacts state threshold count h g) in
+    let Settings : Files → Type 0 = λ f. IsStateOf f state
+    × ((config : Config) × (config_of (contents_at f ConfigFile) ≡ Ok config) × (limit ≡ config.limit)) in
+    let All : History → History → Type 0 = λ h g. Settings (files_now h) × (Went state chosen h g × Compacts limit state threshold count h g) in
     record {
       each = between_map a c (Went state chosen) CompactEach (went_each state chosen) went;
       end = between_map a c All (λ h g. AllDone h g × Knows state threshold count h g)
           (λ h g all.
-          let done = compacts_done state threshold count h g all.0.0 all.1.0.plain all.1.1 in (
+          let done = compacts_done limit state threshold count h g all.0.0 all.1.0.plain all.1.1 in (
             done.0,
-            record { is = all.0.0; config = all.0.1.0; settings = all.0.1.1; compacts = all.1.1; some = done.1 },
+            record {
+              is = all.0.0;
+              config = all.0.1.0;
+              settings = all.0.1.1;
+              compacts = subst (λ (m : ℕ). Compacts m state threshold count h g) all.0.1.2 all.1.1;
+              some = done.1;
+            },
           ))
-          (known_then (λ h. Settings (files_now h)) (λ h g. Went state chosen h g × Compacts state threshold count h g) a c
-          (settings_known a state is config)
-          (between_both a c (Went state chosen) (Compacts state threshold count) went (after_same (Compacts state threshold count) a b c same compacts)));
+          (known_then (λ h. Settings (files_now h)) (λ h g. Went state chosen h g × Compacts limit state threshold count h g) a c
+          (settings_known limit a state is config)
+          (between_both a c (Went state chosen) (Compacts limit state threshold count) went
+          (after_same (Compacts limit state threshold count) a b c same compacts)));
       ends = ends ∙ ended;
       cause = caused ∙ read;
     }
 
 -- and the line is told, or isn't
-pub did_compact : (state : LogState) (threshold count : ℕ) (a b c d : Option Told) (n m k l : ℕ) (result : Result (Unit {0}) StoreRefusal)
+pub did_compact : (limit : ℕ) (state : LogState) (threshold count : ℕ) (a b c d : Option Told) (n m k l : ℕ) (result : Result (Unit {0}) StoreRefusal)
     → Between a b (λ h g. g ≡ h) → IfSome a (λ t. IsStateOf (told_files t) state)
-    → IfSome a (λ t. (config : Config) × (config_of (contents_at (told_files t) ConfigFile) ≡ Ok config))
-    → Between a c (Went state (chosen_in threshold state.extents)) → Between b c (Compacts state threshold count)
+    → IfSome a (λ t. (config : Config) × (config_of (contents_at (told_files t) ConfigFile) ≡ Ok config) × (limit ≡ config.limit))
+    → Between a c (Went state (chosen_in threshold state.extents)) → Between b c (Compacts limit state threshold count)
     → failed_told b ≡ failed_told a → failed_told c ≡ failed_told b → m ≡ n → k ≡ m
     → Did (IsStep (TellOf (compacted_line count))) (λ _ h g. g ≡ with_act (TellOf (compacted_line count)) true h) c d k l result
     → Did CompactEach (λ _ h g. h.acts ≡ [] → HasCompacted threshold h g) a d n l result
-did_compact state threshold count a b c d n m k l result same is config went compacts ended ends read caused tells =
+did_compact limit state threshold count a b c d n m k l result same is config went compacts ended ends read caused tells =
     let line = compacted_line count in
     did_then CompactEach (Knows state threshold) (IsStep (TellOf line)) (λ _ h g. g ≡ with_act (TellOf line) true h) CompactEach
     (λ _ h g. h.acts ≡ [] → HasCompacted threshold h g) a c d n k l count result (λ h g i each done knows is. each_then line h g i each done knows.some is)
     (λ y h g i knows is. ends_then state threshold count h g i knows is)
-    (did_all_of state threshold count a b c n m k same is config went compacts ended ends read caused) tells
+    (did_all_of limit state threshold count a b c n m k same is config went compacts ended ends read caused) tells
 
 fault_is : (fault : CompactFault) → depot_failed (compact_refusal fault) ≡ compact_failed fault
 fault_is (Faults.Damaged segment at) = refl
@@ -176,10 +185,11 @@ line_removes state threshold line a c d went tells =
 pub shut_same : (a b : Option Told) → Between a b (λ h g. g ≡ h) → Between a b (λ h g. (ReadsTarget (files_now h) → ⊥) → g ≡ h)
 shut_same a b same = between_map a b (λ h g. g ≡ h) (λ h g. (ReadsTarget (files_now h) → ⊥) → g ≡ h) (λ h g e shut. e) same
 
-pub shut_read : (state : LogState) (a b d : Option Told) (E F : History → History → Type 0) → IfSome a (λ t. IsStateOf (told_files t) state)
-    → IfSome a (λ t. (config : Config) × (config_of (contents_at (told_files t) ConfigFile) ≡ Ok config)) → Between a b E → Between b d F
+pub shut_read : (limit : ℕ) (state : LogState) (a b d : Option Told) (E F : History → History → Type 0) → IfSome a (λ t. IsStateOf (told_files t) state)
+    → IfSome a (λ t. (config : Config) × (config_of (contents_at (told_files t) ConfigFile) ≡ Ok config) × (limit ≡ config.limit)) → Between a b E
+    → Between b d F
     → Between a d (λ h g. (ReadsTarget (files_now h) → ⊥) → g ≡ h)
-shut_read state None b d E F reads settings p q = tt
-shut_read state (Some s) b d E F reads settings p q =
+shut_read limit state None b d E F reads settings p q = tt
+shut_read limit state (Some s) b d E F reads settings p q =
     let each = between_then (Some s) b d E F (λ h g. Unit {0}) (λ h g i e f. tt) p q in
-    (each.0, each.1, λ shut. absurd (shut ((state, reads), settings)))
+    (each.0, each.1, λ shut. absurd (shut ((state, reads), (settings.0, settings.1))))

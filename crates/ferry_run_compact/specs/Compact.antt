@@ -48,7 +48,8 @@ CompactEach before now = (before.acts ≡ [] → (transaction : ℕ) (log : List
 
 -- ---- the end
 
--- The target's log was read, and its settings; it was compacted so, and then the number of segments was told that were removed.
+-- The target's log was read, and its settings; it was compacted so, in segments of the greatest size that these have, and then the number of segments was told
+-- that were removed.
 pub record HasCompacted (threshold : ℕ) (before now : History) : Type 0 where
   pub state : LogState
   pub reads : IsStateOf (files_now before) state
@@ -56,7 +57,7 @@ pub record HasCompacted (threshold : ℕ) (before now : History) : Type 0 where
   pub settings : config_of (contents_at (files_now before) ConfigFile) ≡ Ok config
   pub count : ℕ
   pub compacted : History
-  pub compacts : Compacts state threshold count before compacted
+  pub compacts : Compacts config.limit state threshold count before compacted
   pub tells : now ≡ with_act (TellOf (compacted_line count)) true compacted
 
 -- Over files that have a log, behind a run that had made no act, what is read of them has its objects, and no others.

@@ -86,7 +86,7 @@ fn read_target<D: Depot>(alloc: Global, target: &mut D) -> Result<(Log, u64), Re
     ensures log { IfOk result (λ both. IfSome (D.told target.old) (λ t. IsStateOf (told_files t) both.0)) }
     ensures learnt { IfOk result (λ both. both.0.learnt ≡ empty) }
     ensures settings { IfOk result (λ both. IfSome (D.told target.old) (λ t. (config : Config)
-        × (config_of (contents_at (told_files t) FileName.Config) ≡ Ok config))) }
+        × (config_of (contents_at (told_files t) FileName.Config) ≡ Ok config) × (both.1 ≡ config.limit))) }
     ensures refused { IfErr result (λ fault. IfSome (D.told target.old) (λ t. RefusesSettings (told_files t) fault)) }
     ensures same { KeepsTold repo_failed (D.told target.old) (D.told target.new) result }
     ensures cause { HasCause repo_failed (D.faults target.old) (D.faults target.new) result }

@@ -11,7 +11,7 @@ use Rattle.ferry_compact.proofs.compaction.commit_and_remove.Goals as goal
 
 pub returns-in_err-commit : goal.returns-in_err-commit
 returns-in_err-commit g c = record {
-  commits = λ state threshold is begin first goes.
+  commits = λ limit state threshold is begin first goes.
       let b = g.D.Shelf.told c.args.depot.now in
       let d = g.D.Shelf.told c.commit.new.depot in
       let m = g.D.Shelf.faults c.args.depot.now in
@@ -20,14 +20,15 @@ returns-in_err-commit g c = record {
       let fault = c.in_err-commit.field-0.0 in
       let said = c.in_err-commit.ensures in
       err_is c.from_residual.result (write_fault fault)
-      (λ (r : Result (Unit {0}) CompactFault). Goes state these (MovedAll state these) begin d first k r) c.from_residual.ensures.1
-      (commit_refused state threshold c.args.session.now (MovedAll state these) fault begin b d first m k said.moments said.gains said.stays said.beside
+      (λ (r : Result (Unit {0}) CompactFault). Goes state these (MovedAll limit state these) begin d first k r) c.from_residual.ensures.1
+      (commit_refused limit state threshold c.args.session.now (MovedAll limit state these) fault begin b d first m k said.moments said.gains said.stays
+      said.beside
       said.untold (λ same. said.numbers.0 (ap (fault_of {T = ℕ}) same)) said.cause said.ends goes);
 }
 
 pub returns-in_err-remove_all : goal.returns-in_err-remove_all
 returns-in_err-remove_all g c = record {
-  commits = λ state threshold is begin first goes.
+  commits = λ limit state threshold is begin first goes.
       let b = g.D.Shelf.told c.args.depot.now in
       let d = g.D.Shelf.told c.commit.new.depot in
       let i = g.D.Shelf.told c.remove_all.new.depot in
@@ -38,16 +39,17 @@ returns-in_err-remove_all g c = record {
       let fault = c.in_err-remove_all.field-0.0 in
       let said = c.in_ok-commit.ensures in
       err_is c.from_residual-in_err-remove_all.result (write_fault fault)
-      (λ (r : Result (Unit {0}) CompactFault). Goes state these (MovedAll state these) begin i first j r) c.from_residual-in_err-remove_all.ensures.1
-      (passes_left state threshold c.args.chosen.now is (MovedAll state these) fault begin d i first k j
+      (λ (r : Result (Unit {0}) CompactFault). Goes state these (MovedAll limit state these) begin i first j r) c.from_residual-in_err-remove_all.ensures.1
+      (passes_left limit state threshold c.args.chosen.now is (MovedAll limit state these) fault begin d i first k j
       (λ same. c.in_err-remove_all.ensures.numbers (ap (fault_of {T = Unit {0}}) same)) c.in_err-remove_all.ensures.ran
-      (commit_did state threshold c.args.session.now c.commit.new.self begin b d first m k said.ok said.moments said.gains said.stays said.beside said.untold
+      (commit_did limit state threshold c.args.session.now c.commit.new.self begin b d first m k said.ok said.moments said.gains said.stays said.beside
+      said.untold
       said.committed said.rows said.done said.cause said.ends goes));
 }
 
 pub returns : goal.returns
 returns g c = record {
-  commits = λ state threshold is begin first goes.
+  commits = λ limit state threshold is begin first goes.
       let b = g.D.Shelf.told c.args.depot.now in
       let d = g.D.Shelf.told c.commit.new.depot in
       let i = g.D.Shelf.told c.remove_all.new.depot in
@@ -55,7 +57,8 @@ returns g c = record {
       let k = g.D.Shelf.faults c.commit.new.depot in
       let j = g.D.Shelf.faults c.remove_all.new.depot in
       let said = c.in_ok-commit.ensures in
-      passes_removed state threshold c.args.chosen.now is begin d i first k j c.in_ok-remove_all.ensures.ran
-      (commit_did state threshold c.args.session.now c.commit.new.self begin b d first m k said.ok said.moments said.gains said.stays said.beside said.untold
+      passes_removed limit state threshold c.args.chosen.now is begin d i first k j c.in_ok-remove_all.ensures.ran
+      (commit_did limit state threshold c.args.session.now c.commit.new.self begin b d first m k said.ok said.moments said.gains said.stays said.beside
+      said.untold
       said.committed said.rows said.done said.cause said.ends goes);
 }

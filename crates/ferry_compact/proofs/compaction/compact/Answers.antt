@@ -12,6 +12,7 @@ use Rattle.ferry_compact.proofs.compaction.compact.Goals as goal
 
 pub returns-in_err-session : goal.returns-in_err-session
 returns-in_err-session g c =
+    let limit = c.args.limit in
     let state = c.args.log in
     let threshold = c.args.threshold in
     let a = g.D.Shelf.told c.args.depot.now in
@@ -21,13 +22,14 @@ returns-in_err-session g c =
     let these = chosen_in threshold state.extents in
     let fault = c.in_err-session.field-0.0 in
     let said = c.in_err-session.ensures in
-    err_is c.from_residual.result (write_fault fault) (λ (r : Result ℕ CompactFault). Clauses state threshold a b n m r) c.from_residual.ensures.1
-    (run_refused state threshold (MovedAll state these) (write_fault fault) a b n m c.requires.opened
-    (run_unbegun state these c.transaction.result (MovedAll state these) fault a b n m c.transaction.ensures said.moments said.acts said.first said.gains
+    err_is c.from_residual.result (write_fault fault) (λ (r : Result ℕ CompactFault). Clauses limit state threshold a b n m r) c.from_residual.ensures.1
+    (run_refused limit state threshold (MovedAll limit state these) (write_fault fault) a b n m c.requires.opened
+    (run_unbegun state these c.transaction.result (MovedAll limit state these) fault a b n m c.transaction.ensures said.moments said.acts said.first said.gains
     said.beside said.untold (λ same. said.numbers (ap (fault_of {T = Session}) same)) said.cause said.ends))
 
 pub returns : goal.returns
 returns g c =
+    let limit = c.args.limit in
     let state = c.args.log in
     let a = g.D.Shelf.told c.args.depot.now in
     let b = g.D.Shelf.told c.begin.new.depot in
@@ -35,6 +37,6 @@ returns g c =
     let m = g.D.Shelf.faults c.begin.new.depot in
     let session = c.in_ok-session.session in
     let said = c.in_ok-session.ensures in
-    c.compact_log.ensures.ends a n c.requires.opened
-    (run_begun state (chosen_in c.args.threshold state.extents) c.args.limit c.transaction.result session a b n m c.transaction.ensures said.fresh
+    c.compact_log.ensures.ends limit a n c.requires.opened
+    (run_begun state (chosen_in c.args.threshold state.extents) limit c.transaction.result session a b n m c.transaction.ensures said.fresh
     said.moments said.acts said.first said.gains said.beside said.untold said.begun said.rows said.cause said.ends)

@@ -9,7 +9,7 @@ use Rattle.ferry_compact.proofs.compaction.compact_log.Goals as goal
 
 pub returns-in_err-extents : goal.returns-in_err-extents
 returns-in_err-extents g c = record {
-  ends = λ begin first opened goes.
+  ends = λ limit begin first opened goes.
       let state = c.args.log.now in
       let b = g.D.Shelf.told c.args.depot.now in
       let m = g.D.Shelf.faults c.args.depot.now in
@@ -17,9 +17,9 @@ returns-in_err-extents g c = record {
       let these = chosen_in threshold state.extents in
       let fault = c.in_err-extents.field-0.0 in
       let memory = c.in_err-extents.ensures.memory in
-      err_is c.from_residual.result fault (λ (r : Result ℕ CompactFault). Clauses state threshold begin b first m r) c.from_residual.ensures.1
-      (run_refused state threshold (MovedAll state these) fault begin b first m opened
-      (run_stopped state these (Begun state c.args.session.now) (MovedAll state these) fault begin b first m (memory_still fault memory)
+      err_is c.from_residual.result fault (λ (r : Result ℕ CompactFault). Clauses limit state threshold begin b first m r) c.from_residual.ensures.1
+      (run_refused limit state threshold (MovedAll limit state these) fault begin b first m opened
+      (run_stopped state these (Begun limit state c.args.session.now) (MovedAll limit state these) fault begin b first m (memory_still fault memory)
       (memory_outside fault memory) goes));
 }
 

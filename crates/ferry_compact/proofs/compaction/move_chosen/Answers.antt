@@ -9,7 +9,7 @@ use Rattle.ferry_compact.proofs.compaction.move_chosen.Goals as goal
 
 pub returns-in_err-stays : goal.returns-in_err-stays
 returns-in_err-stays g c = record {
-  moves = λ threshold is begin first goes.
+  moves = λ limit threshold is begin first goes.
       let state = c.args.log.now in
       let b = g.D.Shelf.told c.args.depot.now in
       let d = g.D.Shelf.told c.puts_that_stay.new.depot in
@@ -19,14 +19,15 @@ returns-in_err-stays g c = record {
       let fault = c.in_err-stays.field-0.0 in
       let said = c.in_err-stays.ensures in
       err_is c.from_residual.result fault
-      (λ (r : Result (Unit {0}) CompactFault). Goes state these (MovedAll state these) begin d first k r) c.from_residual.ensures.1
-      (passes_refused state threshold c.args.extents.now c.args.chosen.now c.requires.extents is c.args.session.now (MovedAll state these) fault begin b d
+      (λ (r : Result (Unit {0}) CompactFault). Goes state these (MovedAll limit state these) begin d first k r) c.from_residual.ensures.1
+      (passes_refused limit state threshold c.args.extents.now c.args.chosen.now c.requires.extents is c.args.session.now (MovedAll limit state these) fault
+      begin b d
       first m k said.stays said.same said.cause goes);
 }
 
 pub returns-in_err-move_all : goal.returns-in_err-move_all
 returns-in_err-move_all g c = record {
-  moves = λ threshold is begin first goes.
+  moves = λ limit threshold is begin first goes.
       let state = c.args.log.now in
       let notes = c.in_ok-stays.stays.entries in
       let b = g.D.Shelf.told c.args.depot.now in
@@ -42,17 +43,18 @@ returns-in_err-move_all g c = record {
       let extents = c.args.extents.now in
       let chosen = c.args.chosen.now in
       err_is c.from_residual-in_err-move_all.result fault
-      (λ (r : Result (Unit {0}) CompactFault). Goes state these (MovedAll state these) begin i first j r) c.from_residual-in_err-move_all.ensures.1
-      (did_refused _ _ _ (MovedAll state these) begin i first j fault
-      (passes_moved state threshold extents chosen c.requires.extents is notes session c.move_all.new.session (Err fault) begin d i first k j
+      (λ (r : Result (Unit {0}) CompactFault). Goes state these (MovedAll limit state these) begin i first j r) c.from_residual-in_err-move_all.ensures.1
+      (did_refused _ _ _ (MovedAll limit state these) begin i first j fault
+      (passes_moved limit state threshold extents chosen c.requires.extents is notes session c.move_all.new.session (Err fault) begin d i first k j
       c.in_err-move_all.ensures.did
-      (passes_noted state threshold extents chosen c.requires.extents is notes session c.in_ok-stays.stays begin b d first m k said.stays said.same said.cause
+      (passes_noted limit state threshold extents chosen c.requires.extents is notes session c.in_ok-stays.stays begin b d first m k said.stays said.same
+      said.cause
       goes)));
 }
 
 pub returns : goal.returns
 returns g c = record {
-  moves = λ threshold is begin first goes.
+  moves = λ limit threshold is begin first goes.
       let state = c.args.log.now in
       let notes = c.in_ok-stays.stays.entries in
       let b = g.D.Shelf.told c.args.depot.now in
@@ -65,9 +67,10 @@ returns g c = record {
       let session = c.args.session.now in
       let extents = c.args.extents.now in
       let chosen = c.args.chosen.now in
-      c.commit_and_remove.ensures.commits state threshold is begin first
-      (passes_moved state threshold extents chosen c.requires.extents is notes session c.move_all.new.session (Ok tt) begin d i first k j
+      c.commit_and_remove.ensures.commits limit state threshold is begin first
+      (passes_moved limit state threshold extents chosen c.requires.extents is notes session c.move_all.new.session (Ok tt) begin d i first k j
       c.in_ok-move_all.ensures.did
-      (passes_noted state threshold extents chosen c.requires.extents is notes session c.in_ok-stays.stays begin b d first m k said.stays said.same said.cause
+      (passes_noted limit state threshold extents chosen c.requires.extents is notes session c.in_ok-stays.stays begin b d first m k said.stays said.same
+      said.cause
       goes));
 }

@@ -1,4 +1,4 @@
-use Rattle.std.proofs.Common.{Result, ap}
+use Rattle.std.proofs.Common.{Result, ap, arith}
 use Rattle.ferry_compact.proofs.ReadingLemmas.{err_is}
 use Rattle.ferry_compact.proofs.WentLemmas.{fault_of, put_did, put_refused}
 use Rattle.ferry_compact.specs.Fault.{write_fault}
@@ -32,5 +32,6 @@ returns-clause-did g c =
     let session = c.args.session.now in
     let entry = DeleteEntry c.args.key.now in
     let said = c.in_ok-delete.ensures in
-    put_did session c.delete.new.self entry 41 a b n m said.moments said.gains said.stays said.beside said.untold said.put said.rows said.done said.ok
+    put_did session c.delete.new.self entry 41 a b n m (λ fit. omega (arith, fit)) said.moments said.gains said.stays said.beside said.untold said.put
+    said.rows said.done said.ok
     said.cause said.ends

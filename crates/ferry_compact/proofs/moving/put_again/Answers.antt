@@ -1,4 +1,5 @@
-use Rattle.std.proofs.Common.{◌+◌, Result, ap, length}
+use Rattle.std.proofs.Common.{◌+◌, Result, ap, length, arith}
+use Rattle.std.proofs.lemmas.List.{length-append}
 use Rattle.ferry_compact.proofs.ReadingLemmas.{err_is}
 use Rattle.ferry_compact.proofs.WentLemmas.{fault_of, put_did, put_refused}
 use Rattle.ferry_compact.specs.Fault.{write_fault}
@@ -33,5 +34,6 @@ returns-clause-did g c =
     let session = c.args.session.now in
     let entry = PutEntry c.args.key.now c.args.blob.now in
     let said = c.in_ok-put.ensures in
-    put_did session c.put.new.self entry (41 + length c.args.blob.now) a b n m said.moments said.gains said.stays said.beside said.untold said.put said.rows
+    put_did session c.put.new.self entry (41 + length c.args.blob.now) a b n m
+    (λ fit. omega (arith, fit.0, length-append c.args.key.now c.args.blob.now)) said.moments said.gains said.stays said.beside said.untold said.put said.rows
     said.done said.ok said.cause said.ends

@@ -70,7 +70,7 @@ returns-clause-did g c =
     let read = c.in_ok-log.ensures in
     let same = same_told {T = Unit {0}} repo_failed a b (Ok tt) read.same in
     let h = c.in-Ok.ensures in
-    did_compact state c.args.threshold c.in-Ok.count a b d (g.D.Shelf.told c.tell_compacted.new.target) (g.D.Shelf.faults c.args.target.now)
+    did_compact c.in_ok-log.limit state c.args.threshold c.in-Ok.count a b d (g.D.Shelf.told c.tell_compacted.new.target) (g.D.Shelf.faults c.args.target.now)
     (g.D.Shelf.faults c.read_target.new.target) (g.D.Shelf.faults c.compact.new.depot) (g.D.Shelf.faults c.tell_compacted.new.target)
     c.tell_compacted.result same read.log read.settings
     (went_all state chosen a b d same read.log h.live h.kept h.numbers h.first h.removes h.plain) h.compacted
@@ -98,7 +98,7 @@ returns-in-Err-clause-shut g c =
     let a = g.D.Shelf.told c.args.target.now in
     let b = g.D.Shelf.told c.read_target.new.target in
     let d = g.D.Shelf.told c.compact.new.depot in
-    shut_read c.in_ok-log.log a b d (λ h k. k ≡ h) SettlesFirst c.in_ok-log.ensures.log c.in_ok-log.ensures.settings
+    shut_read c.in_ok-log.limit c.in_ok-log.log a b d (λ h k. k ≡ h) SettlesFirst c.in_ok-log.ensures.log c.in_ok-log.ensures.settings
     (same_told repo_failed a b c.read_target.result c.read_target.ensures.same) c.in-Err.ensures.first
 
 pub returns-clause-shut : goal.returns-clause-shut
@@ -108,5 +108,5 @@ returns-clause-shut g c =
     let d = g.D.Shelf.told c.compact.new.depot in
     let e = g.D.Shelf.told c.tell_compacted.new.target in
     let same = same_told repo_failed a b c.read_target.result c.read_target.ensures.same in
-    shut_read c.in_ok-log.log a d e SettlesFirst _ c.in_ok-log.ensures.log c.in_ok-log.ensures.settings
+    shut_read c.in_ok-log.limit c.in_ok-log.log a d e SettlesFirst _ c.in_ok-log.ensures.log c.in_ok-log.ensures.settings
     (after_same SettlesFirst a b d same c.in-Ok.ensures.first) c.tell_compacted.ensures.did.each
