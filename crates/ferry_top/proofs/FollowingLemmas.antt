@@ -234,8 +234,11 @@ init_opens : (secret : Secret) (before now : History) → MayBegin secret before
     → CanGoOn secret (files_now before) → Moments (EachStop (CanOpen secret)) before now
 init_opens secret before now may each (unmade number uncommitted is) =
     moments_map _ (EachStop (CanOpen secret)) before now (λ h shows image left. elim (shows image left) [
-      | inl none ↦ inl none
-      | inr new ↦ inr (new.repo, new.opens)
+      | inl quiet ↦ elim quiet.1 [
+        | inl none ↦ inl none
+        | inr new ↦ inr (new.repo, new.opens)
+      ]
+      | inr told ↦ inr (told.0.repo, told.0.opens)
     ]) (each.0.0 may.begun uncommitted)
 init_opens secret before now may each (made repo opens has) =
     let same : now ≡ before = each.0.1 may.begun (λ none. uncommitted_apart (files_now before) repo.log.transaction none opens.opens.unlocks.reads.is.is) in

@@ -273,7 +273,7 @@ runs_reported words secrets before after between status does causes reports = re
 
 each_told : (secret : Secret) (told : Option Told) → Between told told (CommandEach secret)
 each_told secret None = tt
-each_told secret (Some t) = (t, refl, each_command secret t.history t.history (each_here secret t.history))
+each_told secret (Some t) = (t, refl, each_command secret t.history t.history refl (each_here secret t.history))
 
 memory_told : (secret : Secret) (timestamp : List ℕ) (told : Option Told) → IfSome told (λ t. RefusesInit secret timestamp t.history Store.Memory)
 memory_told secret timestamp None = tt

@@ -27,7 +27,7 @@ returns-in_err-init-clause-made g c =
       (
         tt,
         did_failed secret InitFits (λ _ h g. h.acts ≡ [] → MakesAndTells secret c.args.iterations c.args.timestamp.now [] h g) a b n m refusal
-            c.in_err-init.ensures.did,
+            c.in_err-init.ensures.untold c.in_err-init.ensures.did,
       ),
     )
 
@@ -50,7 +50,8 @@ returns-in_err-unlocked-clause-made g c =
       (
         tt,
         did_unread secret (λ _ h g. h.acts ≡ [] → MakesAndTells secret c.args.iterations c.args.timestamp.now [] h g) c.in_ok-init.field-0 a b d n m k fault
-            c.in_ok-init.ensures.did (same_told {T = Unit {0}} repo_failed b d (Err fault) same) (keeps_end {T = Unit {0}} repo_failed b d (Err fault) same)
+            c.in_ok-init.ensures.untold c.in_ok-init.ensures.did (same_told {T = Unit {0}} repo_failed b d (Err fault) same)
+            (keeps_end {T = Unit {0}} repo_failed b d (Err fault) same)
             c.in_err-unlocked.ensures.cause,
       ),
     )
@@ -80,7 +81,8 @@ returns-clause-made g c =
         did_tell secret c.args.iterations c.args.timestamp.now made.0 u.config.id c.in_ok-init.field-0 (g.D.Shelf.told c.args.target.now) b d
             (g.D.Shelf.told c.tell_id.new.target) (g.D.Shelf.faults c.args.target.now) (g.D.Shelf.faults c.init.new.depot)
             (g.D.Shelf.faults c.unlock.new.shelf) (g.D.Shelf.faults c.tell_id.new.target) c.tell_id.result c.in_ok-init.ensures.did made.1.1
-            (has_id b secret u.config u.iterations (key_view u.key) c.in_ok-unlocked.ensures.unlocked) (same_told {T = Unit {0}} repo_failed b d (Ok tt) same)
+            c.in_ok-init.ensures.untold (has_id b secret u.config u.iterations (key_view u.key) c.in_ok-unlocked.ensures.unlocked)
+            (same_told {T = Unit {0}} repo_failed b d (Ok tt) same)
             (keeps_end {T = Unit {0}} repo_failed b d (Ok tt) same) c.in_ok-unlocked.ensures.cause c.tell_id.ensures.did,
       ),
     )
