@@ -1395,6 +1395,53 @@ def foreseen():
             judge(f"foreseen: {path.decode()}", run(("target", "-", "extract", "a", path.decode()), root, variables), (0, content))
 
 
+def changed(chunks, block, numbers):
+    """Contents that have most of these chunks, by what was done: in place, in other chunks, at other bytes, at an end."""
+    other = lambda *places: [numbers.randbytes(len(chunk)) if place in places else chunk for place, chunk in enumerate(chunks)]
+    last = len(chunks) - 1
+    return {
+        **{f"changed at {', '.join(map(str, places))}".encode(): other(*places) for places in [(0,), (3,), (last,), (1, 6), (0, 2, 4, last), range(1, last)]},
+        b"in other chunks": [chunks[0], numbers.randbytes(100), numbers.randbytes(len(chunks[1]) - 100), *chunks[2:]],
+        b"the same in one": [*chunks[:2], chunks[2] + chunks[3], *chunks[4:]],
+        b"a byte more": [*chunks[:3], b"x", *chunks[3:]],
+        b"a block more": [*chunks[:3], numbers.randbytes(block), *chunks[3:]],
+        b"less": [*chunks[:2], *chunks[3:]],
+        b"more": [*chunks, numbers.randbytes(1000)],
+        b"cut": chunks[:5],
+        b"without the first": chunks[1:],
+        b"thrice": [*chunks[:3], *chunks[:3], *chunks[:3]],
+        b"one alone": chunks[1:2],
+    }
+
+
+def changed_in_place():
+    """Contents that share chunks with others, at the same bytes and at others, in one archive and in the next: the target has them as they are."""
+    variables = {**OPEN, b"BORG_PASSPHRASE": PASSPHRASE}
+    for block, sizes in [(512, (5000, 3000, 1200, 512, 7, 4000, 2048, 1000)), (8192, (70000, 30000, 9000, 8192, 20000, 40000, 16384, 24576)), (8192, (16384,) * 9)]:
+        keys, numbers = Keys(), random.Random(block + len(sizes))
+        chunks = [numbers.randbytes(size) for size in sizes]
+        first, second = changed(chunks, block, numbers), changed(chunks, block, numbers)
+        contents = {b"a": {b"first": chunks, **first}, b"b": {**second, b"last": chunks}}
+        archives = [Archive(keys, name, [Item(path, parts) for path, parts in named.items()]) for name, named in contents.items()]
+        manifest = keys.blob(keys.tagged(fields([entry for archive, name in zip(archives, contents) for entry in archive.named(name)])))
+        whole = [b"".join(parts) for named in contents.values() for parts in named.values()]
+        pieces = {content[at : at + block] for content in whole for at in range(0, len(content), block)}
+        told = b"transferred a\ntransferred b\ntotal 2 transferred 0 present %d chunks %d bytes " % (len(pieces), sum(map(len, pieces)))
+        with tempfile.TemporaryDirectory() as root:
+            make(root, inside("source", repository(keys, PASSPHRASE, manifest, *{id: blob for archive in archives for id, blob in archive.chunks()}.items())))
+            judge("changed: a target is made", run(("-", "target", "init", "--iterations", "1"), root, variables)[0:1] + (b"",), (0, b""))
+            words = ("source", "target", "transfer", "--block", str(block), "--checkpoint", "7")
+            status, text = run(words, root, variables)[0:2]
+            judge(f"changed: transfer in pieces of {block}", (status, text[: len(told)]), (0, told))
+            for name, named in contents.items():
+                for path, parts in named.items():
+                    got = run(("target", "-", "extract", name.decode(), path.decode()), root, variables)
+                    judge(f"changed: {name.decode()}, {path.decode()}, in pieces of {block}", got, (0, b"".join(parts)))
+            judge("changed: the target verifies", run(("target", "-", "check"), root, variables)[0:1] + (b"",), (0, b""))
+            status, text = run(words, root, variables)[0:2]
+            judge("changed: again", (status, text[:19]), (0, b"present a\npresent b"))
+
+
 def drills():
     """The drill: its line, that it uses neither folder and no passphrase, and numbers that aren't one of its."""
     done = lambda count: (0, b"drill %d: transferred %d chunks %d bytes %d check ok\n" % (count, count, 280 * count + 8, 512 * (280 * count + 8)))
@@ -1880,7 +1927,7 @@ def rows():
 
 
 READING = (folders, logs, damage, memory, names, words, keys_of_configs, listings, archives, checked, every_byte)
-CASES = (*READING, key_files, targets, refused_targets, transfers, foreseen, plans, restores, deletions, taggings, compactions, locks, written, drills, limits, entropy, variables, of_borg, other_files, lone_key, one_key, rolled_back, streams, large_files, told_before, parents, named_archives, outputs, progress)
+CASES = (*READING, key_files, targets, refused_targets, transfers, foreseen, changed_in_place, plans, restores, deletions, taggings, compactions, locks, written, drills, limits, entropy, variables, of_borg, other_files, lone_key, one_key, rolled_back, streams, large_files, told_before, parents, named_archives, outputs, progress)
 
 
 def main(chosen):

@@ -114,7 +114,7 @@ contents_all told source keys refs place cutter now chunks chunks_now more le p 
 -- ---- as far as it came
 
 -- of the first contents all, and of a further one these
-begins_behind : (keys : Keys) (cutter middle : Cutting) (chunks chunks_middle : List ChunkRef) (bytes others : List ℕ) (some more : List (List ℕ))
+pub begins_behind : (keys : Keys) (cutter middle : Cutting) (chunks chunks_middle : List ChunkRef) (bytes others : List ℕ) (some more : List (List ℕ))
     → length cutter.piece < cutter.block → WritesOn keys cutter chunks bytes some middle chunks_middle → BeginsOn middle others more
     → BeginsOn cutter (bytes ++ others) (some ++ more)
 begins_behind keys cutter middle chunks chunks_middle bytes others some more room writes begins =

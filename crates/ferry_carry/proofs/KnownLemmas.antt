@@ -1,7 +1,6 @@
 -- Lemmas on contents that a store knows: nothing is put of them.
-use Rattle.std.proofs.Common.{◌≡◌, ◌≤◌, ◌-◌, ◌*◌, ℕ, false, List, [], ◌∷◌, map, length, take, drop, get_or, Option}
-use Rattle.std.proofs.Common.{Some, Ok, inr, refl, sym, ◌∙◌, ap, subst, arith}
-use Rattle.std.proofs.lemmas.List.{take_all}
+use Rattle.std.proofs.Common.{◌≡◌, ◌*◌, ℕ, false, List, [], ◌∷◌, map, length, Option}
+use Rattle.std.proofs.Common.{Some, Ok, inr, refl, sym, ◌∙◌, ap, arith}
 use Rattle.std.specs.List.{AllByRecursion}
 use Rattle.ferry_blob.specs.Blob.{content_id}
 use Rattle.ferry_disk.specs.Act.{History}
@@ -113,9 +112,3 @@ known_begun told source store block chunks copied known = inr (known.content, (u
 pub cut_noted : (keys keys_now : Keys) (block block_now : ℕ) (content : List ℕ) (copied pieces : List ChunkRef) → keys_now ≡ keys → block_now ≡ block
     → pieces ≡ copied → copied ≡ chunks_of keys (cut block content) → pieces ≡ map (piece_under keys_now.id_key) (cut block_now content)
 cut_noted keys keys_now block block_now content copied pieces same is p made = rw (same, is) (p ∙ (made ∙ sym (pieces_named keys (cut block content))))
-
--- what holds of the first of some chunks and of all behind it holds of all
-pub all_behind : (P : ChunkRef → Type 0) (chunks : List ChunkRef) (d : ChunkRef) → 1 ≤ length chunks → P (get_or chunks 0 d)
-    → AllByRecursion P (take (length chunks - 1) (drop 1 chunks)) → AllByRecursion P chunks
-all_behind P [] d some first rest = tt
-all_behind P (chunk ∷ chunks) d some first rest = (first, subst (AllByRecursion P) (take_all (length (chunk ∷ chunks) - 1) chunks (omega arith)) rest)

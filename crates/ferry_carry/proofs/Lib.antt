@@ -15,6 +15,7 @@ pub mod NextLemmas
 pub mod LengthLemmas
 pub mod TagLemmas
 pub mod ChunkLemmas
+pub mod PartsLemmas
 pub mod AcceptingLemmas
 pub mod FlightLemmas
 pub mod CauseLemmas

@@ -3,6 +3,7 @@ pub mod Time
 pub mod Copied
 pub mod Grow
 pub mod Copying
+pub mod Parts
 pub mod Naming
 pub mod Flight
 pub mod Chosen

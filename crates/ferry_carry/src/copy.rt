@@ -16,6 +16,7 @@ ghost use Rattle.ferry_carry.specs.Naming.{records_in};
 ghost use Rattle.ferry_carry.specs.Progress.{CopiesOn, IsCopiedSoFar};
 ghost use Rattle.ferry_piece.specs.Piece.{BeginsOn, CountsOn};
 ghost use Rattle.ferry_piece.specs.Puts.{Addition, AreOf, Content, Stream, contents_in};
+ghost use Rattle.ferry_carry.specs.Parts.{WritesChunks};
 ghost use Rattle.ferry_carry.specs.Refusals.{RefusesBegin, RefusesContents, RefusesCopying, RefusesNext, RefusesStep, RefusesText, RefusesWriting};
 ghost use Rattle.ferry_carry.specs.Refusals.{total_size};
 ghost use Rattle.ferry_carry.specs.Step.{BeginsMore, StepsOn};
@@ -300,7 +301,7 @@ impl Copy {
         if total_size(chunks) > MOST_PIECES * self.block as u128 {
             return Err(CarryFault::Pieces);
         }
-        self.write_contents(source, shelf, store, depot, chunks)?;
+        self.write_parts(source, shelf, store, depot, chunks)?;
         let copied = self.contents.finish(store, depot)?;
         if copied.len() > MOST_PIECES as usize {
             return Err(CarryFault::Memory);
@@ -308,8 +309,8 @@ impl Copy {
         Ok(ChunkRefs::new(copied))
     }
 
-    /// Writes the contents of these chunks, one after another.
-    fn write_contents<S: Shelf, D: Depot>(
+    /// Reads the contents of these chunks, and writes them one after another.
+    pub(crate) fn write_contents<S: Shelf, D: Depot>(
         &mut self,
         source: &mut Repo,
         shelf: &mut S,
@@ -320,14 +321,9 @@ impl Copy {
         requires both { CanCopy self.old.contents.checkpoint (source_state (S.told shelf.old) (S.faults shelf.old) source.old)
             (target_state (D.told depot.old) (D.faults depot.old) store.old) }
         requires writer { TakesBytes self.old.contents }
-        ensures written { (more : List Addition) × (AddsOn self.old.contents.checkpoint store.old more store.new
-            (D.told depot.old) (D.told depot.new) (D.faults depot.old) (D.faults depot.new) result
-            × (AreOf Content more × (BeginsContents (S.told shelf.old) (repo_view source.old) chunks.now self.old.contents.cutter (contents_in more)
-            × ((IfErr result (λ fault. WhereSource (S.told shelf.old) fault (λ there refusal.
-            FillsChunks there (repo_view source.old) chunks.now self.old.contents.cutter refusal (contents_in more))))
-            × OnOk result (WritesContents (S.told shelf.old) (repo_view source.old) (repo_view store.old.repo).keys chunks.now
-            (writer_state self.old.contents.cutter self.old.contents.chunks.items) (contents_in more)
-            (writer_state self.new.contents.cutter self.new.contents.chunks.items) × CountsOn Content self.old.contents more self.new.contents))))) }
+        ensures written { WritesChunks self.old.contents.checkpoint (S.told shelf.old) (repo_view source.old)
+            (target_state (D.told depot.old) (D.faults depot.old) store.old) (target_state (D.told depot.new) (D.faults depot.new) store.new) chunks.now
+            self.old.contents self.new.contents result }
         ensures refused { IfErr result (RefusesContents (S.told shelf.old) (repo_view source.old) chunks.now) }
         ensures checkpoint { OnOk result (self.new.contents.checkpoint ≡ self.old.contents.checkpoint) }
         ensures others { OnOk result (self.new ≡ record self.old { contents = self.new.contents }) }
@@ -422,7 +418,7 @@ fn known_content(
 }
 
 /// Whether a store knows the contents of all these chunks.
-fn are_known(store: &Store, pieces: &[ChunkRef]) -> bool
+pub(crate) fn are_known(store: &Store, pieces: &[ChunkRef]) -> bool
     ensures known { IsTrue result → AllByRecursion (λ piece. IsAnswered store.now piece.id) pieces.now }
 {
     let mut rest = pieces;
@@ -451,7 +447,7 @@ fn foresee(writer: &mut PieceWriter, walk: &Walk, source: &Repo, store: &Store, 
 }
 
 /// The content of a chunk of the source, which is the first of `later`. Where it isn't kept, those that follow are read with it.
-fn content_of<S: Shelf>(
+pub(crate) fn content_of<S: Shelf>(
     walk: &Walk,
     source: &mut Repo,
     shelf: &mut S,

@@ -12,6 +12,7 @@ mod laws;
 mod lines;
 mod naming;
 mod options;
+mod parts;
 mod time;
 
 pub use chosen::{carry, missing_name};

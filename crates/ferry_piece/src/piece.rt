@@ -205,6 +205,22 @@ impl PieceWriter {
         self.ahead = foresee(self.alloc, &self.cutter, source, store, chunks, lists);
     }
 
+    /// Whether no piece is in hand.
+    pub fn is_between(&self) -> bool
+        ensures between { IsTrue result → self.now.cutter.piece ≡ [] }
+    {
+        self.cutter.last().is_none()
+    }
+
+    /// Takes the chunks of pieces that were added before. They stand behind the piece in hand, where there is one, and nothing is added.
+    pub fn pass(&mut self, pieces: &[ChunkRef]) -> Result<(), AllocError>
+        ensures chunks { OnOk result (self.new.chunks.items ≡ self.old.chunks.items ++ pieces.now) }
+        ensures others { (self.new.cutter ≡ self.old.cutter) × (self.new.checkpoint ≡ self.old.checkpoint) }
+        ensures counted { (self.new.put ≡ self.old.put) × (self.new.bytes ≡ self.old.bytes) }
+    {
+        self.chunks.extend_from_slice(pieces)
+    }
+
     /// Takes bytes, and adds each piece that becomes whole.
     pub fn write<D: Depot>(
         &mut self,

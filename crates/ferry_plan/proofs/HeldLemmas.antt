@@ -27,7 +27,7 @@ held_all keys log known (content ∷ contents) added all k =
     subst (Knows keys log known) (append_assoc added (addition Content content false ∷ []) (unput contents))
     (held_all keys log known contents (added ++ addition Content content false ∷ []) all.1 (held_one keys log known content added all.0 k))
 
-held_takes : (keys : Keys) (log : LogState) (known : BTreeSet (List ℕ)) (pieces : Pieces) (contents : List (List ℕ))
+pub held_takes : (keys : Keys) (log : LogState) (known : BTreeSet (List ℕ)) (pieces : Pieces) (contents : List (List ℕ))
     → AllByRecursion (λ (content : List ℕ). IsHeld log known (content_id keys content)) contents
     → Takes Content keys log known pieces (unput contents) known pieces
 held_takes keys log known pieces contents all = record {

@@ -9,3 +9,4 @@ pub mod TransferLemmas
 pub mod LawLemmas
 pub mod AnswerLemmas
 pub mod HeldLemmas
+pub mod PartsLemmas

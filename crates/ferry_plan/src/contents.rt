@@ -6,6 +6,7 @@ ghost use Rattle.ferry_piece.specs.Puts.{Addition, AreOf, Content, contents_in};
 ghost use Rattle.ferry_carry.specs.Refusals.{IsTooLong, total_size};
 ghost use Rattle.ferry_disk.specs.Device.{HasCause, KeepsTold, Told, told_files};
 ghost use Rattle.ferry_plan.specs.Fault.{shelf_failed, target_failed};
+ghost use Rattle.ferry_plan.specs.Parts.{TakesChunks};
 ghost use Rattle.ferry_plan.specs.Steps.{RefusesBy};
 ghost use Rattle.ferry_plan.specs.Tally.{HeldContent, IsHeld, IsReady, Takes, TalliesOn};
 ghost use Rattle.ferry_repo.specs.Archives.{HoldsContent, RefusesContent, RefusesJoined};
@@ -13,6 +14,7 @@ ghost use Rattle.ferry_repo.specs.Fault.{IsOfFiles, repo_failed};
 ghost use Rattle.ferry_repo.specs.Opening.{FitsRepo, cached_in, repo_view};
 
 use crate::fault::PlanFault;
+use crate::parts::write_parts;
 use crate::pieces::{Pieces, is_lacking};
 use crate::tally::Tally;
 use ferry_base::Id;
@@ -129,7 +131,7 @@ fn held_content(
 }
 
 /// Whether the target has each of these pieces, or would have it by what was counted.
-fn are_held(known: &BTreeSet<Id>, target: &Repo, pieces: &[ChunkRef]) -> bool
+pub(crate) fn are_held(known: &BTreeSet<Id>, target: &Repo, pieces: &[ChunkRef]) -> bool
     ensures held { IsTrue result → AllByRecursion (λ piece. IsHeld (repo_view target.now).log known.now piece.id) pieces.now }
 {
     let mut rest = pieces;
@@ -183,7 +185,7 @@ fn cut_content<S: Shelf>(
     ensures cause { HasCause shelf_failed (S.faults shelf.old) (S.faults shelf.new) result }
     ensures still { IfErr result (λ fault. target_failed fault ≡ false) }
 {
-    write_contents(
+    write_parts(
         &mut tally.contents,
         &mut tally.known,
         walk,
@@ -199,8 +201,8 @@ fn cut_content<S: Shelf>(
     Ok(ChunkRefs::new(copied))
 }
 
-/// Writes the contents of these chunks, one after another, into pieces.
-fn write_contents<S: Shelf>(
+/// Reads the contents of these chunks, and writes them into pieces, one after another.
+pub(crate) fn write_contents<S: Shelf>(
     pieces: &mut Pieces,
     known: &mut BTreeSet<Id>,
     walk: &Walk,
@@ -212,10 +214,8 @@ fn write_contents<S: Shelf>(
     requires most { pieces.old.cutter.block ≤ 8388608 }
     requires room { length pieces.old.cutter.piece < pieces.old.cutter.block }
     requires source_fits { IfSome (S.told shelf.old) (λ t. FitsRepo (told_files t) (repo_view source.old) (cached_in source.old)) }
-    ensures written { OnOk result ((more : List Addition)
-        × (Takes Content (repo_view target.now).keys (repo_view target.now).log known.old pieces.old more known.new pieces.new
-        × WritesContents (S.told shelf.old) (repo_view source.old) (repo_view target.now).keys chunks.now
-        (writer_state pieces.old.cutter pieces.old.chunks.items) (contents_in more) (writer_state pieces.new.cutter pieces.new.chunks.items))) }
+    ensures written { OnOk result (TakesChunks (repo_view target.now) (S.told shelf.old) (repo_view source.old) chunks.now known.old pieces.old known.new
+        pieces.new) }
     ensures refused { IfErr result (λ fault. IsOfFiles fault → IfSome (S.told shelf.old) (λ t.
         RefusesJoined (told_files t) (repo_view source.old).log (repo_view source.old).keys (Some chunks.now) fault)) }
     ensures source_fits { IfSome (S.told shelf.new) (λ t. FitsRepo (told_files t) (repo_view source.new) (cached_in source.new)) }
@@ -270,7 +270,7 @@ fn write_content<S: Shelf>(
 }
 
 /// The content of a chunk of the source, which is the first of `later`.
-fn content_of<S: Shelf>(
+pub(crate) fn content_of<S: Shelf>(
     walk: &Walk,
     source: &mut Repo,
     shelf: &mut S,

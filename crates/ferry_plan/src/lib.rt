@@ -9,6 +9,7 @@ mod archive;
 mod contents;
 mod fault;
 mod laws;
+mod parts;
 mod pieces;
 mod planning;
 mod present;

@@ -79,6 +79,14 @@ impl Pieces {
         })
     }
 
+    /// Takes the chunks of pieces that are held. They stand behind those that were whole, and nothing is counted.
+    pub(crate) fn pass(&mut self, pieces: &[ChunkRef]) -> Result<(), AllocError>
+        ensures chunks { OnOk result (self.new.chunks.items ≡ self.old.chunks.items ++ pieces.now) }
+        ensures others { (self.new.cutter ≡ self.old.cutter) × ((self.new.put ≡ self.old.put) × (self.new.bytes ≡ self.old.bytes)) }
+    {
+        self.chunks.extend_from_slice(pieces)
+    }
+
     /// Takes bytes, and counts each piece that becomes whole.
     pub(crate) fn write(
         &mut self,

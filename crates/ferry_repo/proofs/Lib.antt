@@ -1,5 +1,6 @@
 pub mod FaultLemmas
 pub mod NotedLemmas
+pub mod SharedLemmas
 pub mod ObjectLemmas
 pub mod BatchLemmas
 pub mod OpeningLemmas

@@ -1,5 +1,6 @@
 pub mod Fault
 pub mod Noted
+pub mod Shared
 pub mod Objects
 pub mod Batch
 pub mod Cached

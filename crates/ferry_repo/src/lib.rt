@@ -17,6 +17,7 @@ mod opening;
 mod reason;
 mod repo;
 mod secret;
+mod shared;
 mod walk;
 
 pub use fault::RepoFault;
@@ -25,4 +26,5 @@ pub use opening::{Unlocked, unlock};
 pub use reason::write_reason;
 pub use repo::Repo;
 pub use secret::Secret;
+pub use shared::SharedPieces;
 pub use walk::Walk;

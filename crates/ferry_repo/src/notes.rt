@@ -21,7 +21,7 @@ const NOTE: usize = 256;
 /// How many bytes a chunk takes.
 const CHUNK: usize = 48;
 
-/// How many bytes a content takes that is passed over, about.
+/// How many bytes a content takes that is passed over, and a chunk by which a note is found, about.
 const PASSED: usize = 96;
 
 /// A content that was cut: the key that makes the ids of its pieces, the length of those in bytes, the chunks that the content has here,
@@ -47,18 +47,19 @@ impl Note {
 }
 
 /// Whether chunks are the same.
-fn same_chunks(chunks: &[ChunkRef], others: &[ChunkRef]) -> bool
+pub(crate) fn same_chunks(chunks: &[ChunkRef], others: &[ChunkRef]) -> bool
     ensures { IsTrue result → chunks.now ≡ others.now }
 {
     chunks == others
 }
 
-/// Notes of contents, one for each id of a first chunk; the contents beside them that reading ahead passes over, by how many chunks they have; and how many
-/// bytes more both may take. Contracts see the notes, as the map's entries.
+/// Notes of contents, one for each id of a first chunk; of those with more than one piece the first chunk by each of theirs; the contents beside them that
+/// reading ahead passes over, by how many chunks they have; and how many bytes more all may take. Contracts see the notes, as the map's entries.
 #[derive(Drop)]
 pub(crate) struct Notes {
     room: usize,
     notes: BTreeMap<Id, Note>,
+    places: BTreeMap<Id, Id>,
     passed: BTreeMap<Id, usize>,
 }
 
@@ -82,6 +83,7 @@ impl Notes {
         Notes {
             room: ROOM,
             notes: BTreeMap::new(alloc),
+            places: BTreeMap::new(alloc),
             passed: BTreeMap::new(alloc),
         }
     }
@@ -103,6 +105,69 @@ impl Notes {
             return None;
         }
         Some(note.pieces.as_slice())
+    }
+
+    /// The note of a content, cut so, that has the first of these chunks that one with more than one piece has.
+    pub(crate) fn like(&self, key: &[u8; 32], block: usize, chunks: &[ChunkRef]) -> Option<&Note>
+        ensures like { IfSome result (λ note. (note.now.key ≡ key.now) × (note.now.block ≡ block)) }
+        ensures noted { IfSome result (λ note. (files : Files) (log : LogState) (keys : Keys)
+            → AllByRecursion (λ n. IsNoted files log keys n.1) self.now → IsNoted files log keys note.now) }
+        ensures cut { IfSome result (λ note. IsCut note.now) }
+    {
+        let note = self.notes.get(self.place_of(chunks)?)?;
+        if note.key != *key || note.block != block {
+            return None;
+        }
+        Some(note)
+    }
+
+    /// The first chunk of a content with more than one piece, which has the first of these chunks that any has.
+    fn place_of(&self, chunks: &[ChunkRef]) -> Option<&Id> {
+        for place in 0..chunks.len() {
+            let first = self.places.get(&chunks[place].id);
+            if first.is_some() {
+                return first;
+            }
+        }
+        None
+    }
+
+    /// Whether a content with these chunks is likely to share pieces with one that is noted: that has its first or its last chunk.
+    pub(crate) fn is_like(&self, chunks: &[ChunkRef]) -> bool {
+        let (Some(first), Some(last)) = (chunks.first(), chunks.last()) else {
+            return false;
+        };
+        self.places.get(&first.id).is_some() || self.places.get(&last.id).is_some()
+    }
+
+    /// Has the note of a content with these chunks be found by each of them, where it has more than one piece, and as far as there is room.
+    pub(crate) fn place(&mut self, chunks: &[ChunkRef], pieces: usize)
+        ensures same { self.new ≡ self.old }
+    {
+        let Some(first) = chunks.first() else {
+            return;
+        };
+        if pieces < 2 {
+            return;
+        }
+        for place in 0..chunks.len() {
+            self.place_one(first.id, chunks[place].id);
+        }
+    }
+
+    /// Has a note be found by a chunk, where there is room.
+    fn place_one(&mut self, first: Id, id: Id)
+        ensures same { self.new ≡ self.old }
+    {
+        if PASSED > self.room {
+            return;
+        }
+        let Ok(before) = self.places.insert(id, first) else {
+            return;
+        };
+        if before.is_none() {
+            self.room = self.room.saturating_sub(PASSED);
+        }
     }
 
     /// Whether reading ahead passes over a content that has these chunks: it is noted, however it was cut, or `pass_over` took it.

@@ -1,8 +1,9 @@
 //! An opened repository.
-ghost use Rattle.std.specs.Prelude.{◌≡◌, ◌⊎◌, ◌<◌, ◌≤◌, [], length, IfOk, IfErr, IfSome, OnOk, OnErr, MatchResult, Ok, false};
+ghost use Rattle.std.specs.List.{AllByRecursion};
+ghost use Rattle.std.specs.Prelude.{◌≡◌, ◌⊎◌, ◌<◌, ◌≤◌, [], length, IfOk, IfErr, IfSome, OnOk, OnErr, MatchResult, Ok, Option, false};
 ghost use Rattle.std.specs.Prelude.{is_some, option_copied, option_map};
 ghost use Rattle.ferry_disk.specs.Files.{Files};
-ghost use Rattle.ferry_disk.specs.Device.{KeepsTold, HasCause, told_files};
+ghost use Rattle.ferry_disk.specs.Device.{KeepsTold, HasCause, Told, told_files};
 ghost use Rattle.ferry_log.specs.State.{with_learnt};
 ghost use Rattle.ferry_manifest.specs.Manifest.Text.{manifest_view};
 ghost use Rattle.ferry_manifest.specs.Manifest.Writing.{IsPackable};
@@ -14,6 +15,7 @@ ghost use Rattle.ferry_repo.specs.Lengths.{HaveLengths, RefusesOne};
 ghost use Rattle.ferry_repo.specs.Noted.{IsCut, IsNoted};
 ghost use Rattle.ferry_repo.specs.Objects.{IsMissing, HoldsChunk, RefusesChunk};
 ghost use Rattle.ferry_repo.specs.Opening.{repo_view, cached_in, mode_of, IsOfManifest, OpensBare, OpensFilesTo, RefusesBare, RefusesRepo, FitsRepo};
+ghost use Rattle.ferry_repo.specs.Shared.{SharesPieces};
 ghost use Rattle.ferry_repo.specs.Walk.{walk_view, begin_walk, FitsWalk};
 
 use crate::batch::{AHEAD, Batch};
@@ -23,6 +25,7 @@ use crate::notes::{Note, Notes};
 use crate::object::object;
 use crate::opening::{mode_of, root_or_none, settings, unlock};
 use crate::secret::Secret;
+use crate::shared::SharedPieces;
 use crate::walk::Walk;
 use ferry_base::{Id, ZERO_ID};
 use ferry_blob::Mode;
@@ -334,6 +337,27 @@ impl Repo {
         self.notes.get(&keys.id_key, block, chunks)
     }
 
+    /// Pieces of `block` bytes under these keys of which a content with these chunks has each, since it has chunks at the same bytes as one that is noted.
+    /// Where memory is refused there are none.
+    pub fn shared(&self, keys: &Keys, block: usize, chunks: &[ChunkRef]) -> Vec<SharedPieces>
+        ensures shared { AllByRecursion (λ shared. (told : Option Told)
+            → IfSome told (λ t. FitsRepo (told_files t) (repo_view self.now) (cached_in self.now))
+            → SharesPieces told (repo_view self.now) keys.now.id_key block chunks.now shared) result.items }
+    {
+        let Some(note) = self.notes.like(&keys.id_key, block, chunks) else {
+            return Vec::new(self.alloc);
+        };
+        match note.shared(self.alloc, chunks) {
+            Ok(shared) => shared,
+            Err(_) => Vec::new(self.alloc),
+        }
+    }
+
+    /// Whether a content with these chunks is likely to share pieces with one that is noted.
+    pub(crate) fn is_like(&self, chunks: &[ChunkRef]) -> bool {
+        self.notes.is_like(chunks)
+    }
+
     /// Whether reading ahead passes over a content that has these chunks: it is noted, however it was cut, or `pass_over` took it.
     pub fn passes_over(&self, chunks: &[ChunkRef]) -> bool {
         self.notes.has(chunks)
@@ -358,6 +382,7 @@ impl Repo {
         ensures kept { repo_view self.new ≡ repo_view self.old }
     {
         if let Ok(note) = note_of(self.alloc, keys, block, chunks, pieces) {
+            self.notes.place(chunks, pieces.len());
             self.notes.put(note);
         }
     }

@@ -153,9 +153,9 @@ impl Walk {
         repo.read_contents(shelf, wanted.as_slice())
     }
 
-    /// The chunks of the items with content that come next and isn't passed over, so far as they stand whole in what was read: a list for each
-    /// item, of the next twenty-three at most. Of the items that come 256 are looked at at most, and a malformed one ends the look. The walk
-    /// stays where it is.
+    /// The chunks of the items with content that come next and isn't passed over, nor likely to share pieces with one that is noted, so far as
+    /// they stand whole in what was read: a list for each item, of the next twenty-three at most. Of the items that come 256 are looked at at most,
+    /// and a malformed one ends the look. The walk stays where it is.
     pub fn lists_ahead(&self, repo: &Repo) -> Result<Vec<ChunkRefs>, AllocError> {
         let mut lists = Vec::new(self.alloc);
         let mut behind = 0;
@@ -291,7 +291,7 @@ impl Walk {
     }
 }
 
-/// Adds an item's chunks, where it has content that isn't passed over.
+/// Adds an item's chunks, where it has content that isn't passed over and isn't likely to share pieces with one that is noted.
 fn add_list(
     repo: &Repo,
     lists: &mut Vec<ChunkRefs>,
@@ -300,7 +300,7 @@ fn add_list(
     let Some(chunks) = chunks else {
         return Ok(());
     };
-    if repo.passes_over(chunks.as_slice()) {
+    if repo.passes_over(chunks.as_slice()) || repo.is_like(chunks.as_slice()) {
         drop(chunks);
         return Ok(());
     }

@@ -1,5 +1,5 @@
 use Rattle.std.proofs.Common.{refl}
-use Rattle.ferry_carry.proofs.KnownLemmas.{all_behind}
+use Rattle.ferry_repo.proofs.SharedLemmas.{all_behind}
 use Rattle.ferry_carry.proofs.copy.are_known.Goals as goal
 use Rattle.ferry_store.specs.Adding.{IsAnswered}
 

@@ -1,5 +1,5 @@
 use Rattle.std.proofs.Common.{refl}
-use Rattle.ferry_carry.proofs.KnownLemmas.{all_behind}
+use Rattle.ferry_repo.proofs.SharedLemmas.{all_behind}
 use Rattle.ferry_plan.proofs.contents.are_held.Goals as goal
 use Rattle.ferry_plan.specs.Tally.{IsHeld}
 use Rattle.ferry_repo.specs.Opening.{repo_view}

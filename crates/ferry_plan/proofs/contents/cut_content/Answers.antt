@@ -17,8 +17,8 @@ use Rattle.ferry_repo.specs.Opening.{repo_view}
 use Rattle.ferry_repo.specs.Archives.{RefusesJoined}
 use Rattle.ferry_repo.specs.declared.fault.RepoFault.{RepoFault}
 
-pub returns-in_err-write_contents-clause-refused : goal.returns-in_err-write_contents-clause-refused
-returns-in_err-write_contents-clause-refused g c =
+pub returns-in_err-write_parts-clause-refused : goal.returns-in_err-write_parts-clause-refused
+returns-in_err-write_parts-clause-refused g c =
     let told = g.S.Shelf.told c.args.shelf.now in
     let source = repo_view c.args.source.now in
     let chunks = c.args.chunks.now in
@@ -27,18 +27,18 @@ returns-in_err-write_contents-clause-refused g c =
     let Long : Files → Type 0 = λ there. IsTooLong c.args.tally.now.block (Some chunks) in
     gives_err c.from_residual.result _ _ c.from_residual.ensures.1
     (λ fault is. subst (RefusesBy told Refused Long) (sym is)
-    (source_refused told Refused Long c.in_err-write_contents.field-0.0
-    (λ of_files. IfSome_then told (c.in_err-write_contents.ensures.refused of_files) (λ t r. (r, c.requires.short)))))
+    (source_refused told Refused Long c.in_err-write_parts.field-0.0
+    (λ of_files. IfSome_then told (c.in_err-write_parts.ensures.refused of_files) (λ t r. (r, c.requires.short)))))
 
 pub returns-clause-taken : goal.returns-clause-taken
 returns-clause-taken g c =
-    let wrote = c.in_ok-write_contents.ensures.written in
+    let wrote = c.in_ok-write_parts.ensures.written in
     let last = c.in_ok-copied.ensures.taken Content in
     let more = wrote.0 ++ last.0 in
     let ready = c.requires.ready in
     let tally = c.args.tally.now in
     let contents = tally.contents in
-    let left = c.write_contents.new.pieces in
+    let left = c.write_parts.new.pieces in
     let target = repo_view c.args.target.now in
     let keys = target.keys in
     let told = g.S.Shelf.told c.args.shelf.now in
@@ -51,7 +51,7 @@ returns-clause-taken g c =
       more,
       (
         contents_tallied keys target.log tally c.finish.new.known c.finish.new.self more
-            (takes_then Content keys target.log tally.known c.write_contents.new.known c.finish.new.known contents left c.finish.new.self wrote.0 last.0
+            (takes_then Content keys target.log tally.known c.write_parts.new.known c.finish.new.known contents left c.finish.new.self wrote.0 last.0
             wrote.1.0 last.1.0),
         (
           of_append Content wrote.0 last.0 wrote.1.0.of last.1.0.of,
@@ -69,5 +69,5 @@ pub returns-clause-ready : goal.returns-clause-ready
 returns-clause-ready g c =
     let ready = c.requires.ready in
     contents_ready c.args.tally.now c.finish.new.known c.finish.new.self
-    (c.in_ok-copied.ensures.block ∙ (c.in_ok-write_contents.ensures.written.1.1.writes.block ∙ ready.contents_block)) c.in_ok-copied.ensures.begun.0
+    (c.in_ok-copied.ensures.block ∙ (c.in_ok-write_parts.ensures.written.1.1.writes.block ∙ ready.contents_block)) c.in_ok-copied.ensures.begun.0
     c.in_ok-copied.ensures.begun.1 ready

@@ -36,26 +36,26 @@ returns-then-total_size-self-clause-copied g c =
       ),
     )
 
-pub returns-in_err-write_contents-clause-copied : goal.returns-in_err-write_contents-clause-copied
-returns-in_err-write_contents-clause-copied g c =
-    let wrote = c.in_err-write_contents.ensures.written in
+pub returns-in_err-write_parts-clause-copied : goal.returns-in_err-write_parts-clause-copied
+returns-in_err-write_parts-clause-copied g c =
+    let wrote = c.in_err-write_parts.ensures.written in
     let more = wrote.0 in
     let ready = c.requires.ready in
     let contents = c.args.self.now.contents in
-    let contents_now = c.write_contents.new.self.contents in
+    let contents_now = c.write_parts.new.self.contents in
     let block = c.args.self.now.block in
     let most = contents.checkpoint in
     let store = c.args.store.now in
-    let now = c.write_contents.new.store in
+    let now = c.write_parts.new.store in
     let a = g.D.Shelf.told c.args.depot.now in
-    let b = g.D.Shelf.told c.write_contents.new.depot in
+    let b = g.D.Shelf.told c.write_parts.new.depot in
     let n = g.D.Shelf.faults c.args.depot.now in
-    let m = g.D.Shelf.faults c.write_contents.new.depot in
+    let m = g.D.Shelf.faults c.write_parts.new.depot in
     let told = g.S.Shelf.told c.args.shelf.now in
     let source = repo_view c.args.source.now in
     let keys = (repo_view store.repo).keys in
     let refs = c.args.chunks.now in
-    let fault = c.in_err-write_contents.field-0.0 in (
+    let fault = c.in_err-write_parts.field-0.0 in (
       more,
       err_is c.from_residual.result fault
           (λ (r : Result ChunkRefs CarryFault). AddsOn most store more now a b n m r
@@ -79,12 +79,12 @@ returns-in_err-write_contents-clause-copied g c =
 
 pub returns-in_err-copied-clause-copied : goal.returns-in_err-copied-clause-copied
 returns-in_err-copied-clause-copied g c =
-    let wrote = c.in_ok-write_contents.ensures.written in
+    let wrote = c.in_ok-write_parts.ensures.written in
     let last = c.in_err-copied.ensures.works Content refl in
     let more = wrote.0 ++ last.0 in
     let ready = c.requires.ready in
     let contents = c.args.self.now.contents in
-    let left = c.write_contents.new.self.contents in
+    let left = c.write_parts.new.self.contents in
     let contents_now = c.finish.new.self in
     let block = c.args.self.now.block in
     let most = contents.checkpoint in
@@ -110,10 +110,10 @@ returns-in_err-copied-clause-copied g c =
           × (IfOk r (λ copied. CopiesContent told source block keys (Some refs) (contents_in more) (Some copied))
           × OnOk r (CountsOn Content contents more contents_now)))))) c.from_residual-in_err-copied.ensures.1 (
             gathered_err {U = ChunkRefs} most store now more a b n m fault
-                (pieces_then {T = Unit {0}} most most left.checkpoint store c.write_contents.new.store now wrote.0 last.0 a
-                (g.D.Shelf.told c.write_contents.new.depot) b n
-                (g.D.Shelf.faults c.write_contents.new.depot) m tt (Err fault) refl c.in_ok-write_contents.ensures.checkpoint
-                c.in_ok-write_contents.ensures.both.target.rest tt wrote.1.0 last.1.0),
+                (pieces_then {T = Unit {0}} most most left.checkpoint store c.write_parts.new.store now wrote.0 last.0 a
+                (g.D.Shelf.told c.write_parts.new.depot) b n
+                (g.D.Shelf.faults c.write_parts.new.depot) m tt (Err fault) refl c.in_ok-write_parts.ensures.checkpoint
+                c.in_ok-write_parts.ensures.both.target.rest tt wrote.1.0 last.1.0),
             (
               of_append Content wrote.0 last.0 wrote.1.1.0 last.1.1.0.1,
               (
@@ -131,12 +131,12 @@ returns-in_err-copied-clause-copied g c =
 
 pub returns-then-len-clause-copied : goal.returns-then-len-clause-copied
 returns-then-len-clause-copied g c =
-    let wrote = c.in_ok-write_contents.ensures.written in
+    let wrote = c.in_ok-write_parts.ensures.written in
     let last = c.in_ok-copied.ensures.works Content refl in
     let more = wrote.0 ++ last.0 in
     let ready = c.requires.ready in
     let contents = c.args.self.now.contents in
-    let left = c.write_contents.new.self.contents in
+    let left = c.write_parts.new.self.contents in
     let block = c.args.self.now.block in
     let most = contents.checkpoint in
     let store = c.args.store.now in
@@ -151,10 +151,10 @@ returns-then-len-clause-copied g c =
       more,
       (
         gathered_fault {U = ChunkRefs} most store now more a b n m c.in_ok-copied.copied Memory refl tt memory_unused
-            (pieces_then {T = Unit {0}} most most left.checkpoint store c.write_contents.new.store now wrote.0 last.0 a
-            (g.D.Shelf.told c.write_contents.new.depot) b n
-            (g.D.Shelf.faults c.write_contents.new.depot) m tt (Ok c.in_ok-copied.copied) refl c.in_ok-write_contents.ensures.checkpoint
-            c.in_ok-write_contents.ensures.both.target.rest
+            (pieces_then {T = Unit {0}} most most left.checkpoint store c.write_parts.new.store now wrote.0 last.0 a
+            (g.D.Shelf.told c.write_parts.new.depot) b n
+            (g.D.Shelf.faults c.write_parts.new.depot) m tt (Ok c.in_ok-copied.copied) refl c.in_ok-write_parts.ensures.checkpoint
+            c.in_ok-write_parts.ensures.both.target.rest
             c.in_ok-copied.ensures.rest wrote.1.0 last.1.0),
         (
           of_append Content wrote.0 last.0 wrote.1.1.0 last.1.1.0.1,
@@ -170,16 +170,16 @@ returns-then-len-clause-copied g c =
 
 pub returns-clause-copied : goal.returns-clause-copied
 returns-clause-copied g c =
-    let wrote = c.in_ok-write_contents.ensures.written in
+    let wrote = c.in_ok-write_parts.ensures.written in
     let last = c.in_ok-copied.ensures.works Content refl in
     let more = wrote.0 ++ last.0 in
     let ready = c.requires.ready in
     let contents = c.args.self.now.contents in
-    let left = c.write_contents.new.self.contents in
+    let left = c.write_parts.new.self.contents in
     let block = c.args.self.now.block in
     let most = contents.checkpoint in
     let store = c.args.store.now in
-    let middle = c.write_contents.new.store in
+    let middle = c.write_parts.new.store in
     let now = c.finish.new.store in
     let a = g.D.Shelf.told c.args.depot.now in
     let b = g.D.Shelf.told c.finish.new.depot in
@@ -197,9 +197,9 @@ returns-clause-copied g c =
       (
         gathered_as {U = ChunkRefs} most store now more a b n m c.in_ok-copied.copied c.new.result
             (pieces_then {T = Unit {0}} most most left.checkpoint store middle now wrote.0 last.0 a
-            (g.D.Shelf.told c.write_contents.new.depot) b n
-            (g.D.Shelf.faults c.write_contents.new.depot) m tt (Ok c.in_ok-copied.copied) refl c.in_ok-write_contents.ensures.checkpoint
-            c.in_ok-write_contents.ensures.both.target.rest
+            (g.D.Shelf.told c.write_parts.new.depot) b n
+            (g.D.Shelf.faults c.write_parts.new.depot) m tt (Ok c.in_ok-copied.copied) refl c.in_ok-write_parts.ensures.checkpoint
+            c.in_ok-write_parts.ensures.both.target.rest
             c.in_ok-copied.ensures.rest wrote.1.0 last.1.0),
         (
           of_append Content wrote.0 last.0 wrote.1.1.0 last.1.1.0.1,
@@ -214,7 +214,7 @@ returns-clause-copied g c =
                     (contents_in wrote.0 ++ cut left.cutter.block left.cutter.piece) (Some copied)) (sym c.new.ensures.chunks)
                     (content_copied told source block keys (repo_view middle.repo).keys refs contents.cutter left.cutter
                     contents.chunks.items left.chunks.items c.in_ok-copied.copied.items (contents_in wrote.0) least ready.contents_block
-                    ready.contents_piece ready.contents_chunks c.in_ok-write_contents.ensures.both.target.rest.keys wrote.1.1.1.1.1.0
+                    ready.contents_piece ready.contents_chunks c.in_ok-write_parts.ensures.both.target.rest.keys wrote.1.1.1.1.1.0
                     c.in_ok-copied.ensures.chunks
                     few)),
                 counts_then Content contents left c.finish.new.self wrote.0 last.0 wrote.1.1.1.1.1.1 last.1.1.1,
