@@ -5,6 +5,7 @@
 - `uneven`: an archive of so many megabytes of random bytes in files of uneven sizes, cut by Borg's own cutter.
 - `small`: an archive of so many files of up to 200 bytes, and one of half as many.
 - `zeros`: an archive of one file of so many gigabytes of zeros.
+- `segments`: the files of `uneven` in chunks of about 256 kB, in segments of 300 kB and of 2.7 MB.
 
 Each archive is stored plain. `restore` and `borg extract --sparse` run in turn, three times each, into a new folder, and the medians are told: processor time in user
 and in system mode, the greatest peak of memory, and the disk's blocks. What both made is compared: kinds, contents, targets, which files are one, and that the
@@ -142,14 +143,18 @@ def medians(runs):
     return [statistics.median(run[index] for run in runs) for index in (1, 2)] + [max(run[3][0] for run in runs)]
 
 
-def turn(root, program, options, name, make, *how):
+def turn(root, program, options, name, make, *how, segment=None):
     """One archive, restored and extracted in turn, compared and told. Answers the processor time of `restore`."""
     tree = os.path.join(root, "tree")
     make(tree, *how)
     borg(root, "init", "-e", "repokey", "source")
     cut = ("--chunker-params", "fixed,4194304", "--sparse") if make is make_zeros else ("--sparse",)
+    if segment:
+        borg(root, "config", "source", "max_segment_size", str(segment))
+        cut = ("--chunker-params", "10,23,18,4095")
     borg(root, "create", *PLAIN, *cut, "source::a", "tree")
     shutil.rmtree(tree)
+    segments = sum(len(files) for top, folders, files in os.walk(os.path.join(root, "source", "data")))
     own, theirs = [], []
     for number in range(options.times):
         theirs.append(extracted(root, "theirs"))
@@ -162,7 +167,7 @@ def turn(root, program, options, name, make, *how):
     (user, system, peak), (their_user, their_system, their_peak) = medians(own), medians(theirs)
     ratio = (user + system) / max(their_user + their_system, 0.001)
     print(
-        f"{name}: {own[0][4][-1]}; {user:.2f} s in user and {system:.2f} s in system mode, peak {peak:.1f} MB, {blocks[0] // 2} kB on disk;"
+        f"{name}, {segments} segments: {own[0][4][-1]}; {user:.2f} s in user and {system:.2f} s in system mode, peak {peak:.1f} MB, {blocks[0] // 2} kB on disk;"
         f" borg extract --sparse {their_user:.2f} and {their_system:.2f} s, {their_peak:.1f} MB, {blocks[1] // 2} kB: {ratio:.2f} times; {count} paths are the same",
         flush=True,
     )
@@ -177,7 +182,7 @@ def main():
     words.add_argument("--zeros", type=float, default=10)
     words.add_argument("--times", type=int, default=3)
     words.add_argument("--folder", help="where the repositories are made, a temporary folder where it isn't given")
-    words.add_argument("cases", nargs="*", default=["odd", "uneven", "small", "zeros"])
+    words.add_argument("cases", nargs="*", default=["odd", "uneven", "small", "zeros", "segments"])
     options = words.parse_args()
     if not has_borg():
         print("skipped: there is no borg of 1.2")
@@ -194,6 +199,12 @@ def main():
             print(f"twice the small files take {whole / max(half, 0.001):.2f} times", flush=True)
         if "zeros" in options.cases:
             turn(root, program, options, f"{options.zeros:.0f} GB of zeros", make_zeros, options.zeros)
+        if "segments" in options.cases:
+            few, many = (
+                turn(root, program, options, f"{options.megabytes:.0f} MB in segments of {size // 1000} kB", make_uneven, options.megabytes, segment=size)
+                for size in (2700000, 300000)
+            )
+            print(f"the small segments take {many / max(few, 0.001):.2f} times as long as the large ones", flush=True)
     return 0
 
 
