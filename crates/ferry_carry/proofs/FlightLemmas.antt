@@ -38,6 +38,7 @@ use Rattle.ferry_store.specs.Fault.{depot_failed}
 use Rattle.ferry_store.specs.Standing.{CommitsManifest, HoldsLive, committed_of, entries_of, live_in}
 use Rattle.ferry_store.specs.Store.{StoreFits}
 use Rattle.ferry_store.specs.declared.fault.StoreRefusal.TheVariants as Stores
+use Rattle.ferry_store.specs.Types.{ReadsSettings}
 use Rattle.ferry_store.specs.declared.store.Store.{Store}
 use Rattle.ferry_write.specs.Script.{AllDone}
 use Rattle.ferry_piece.proofs.AddingLemmas.{HoldsAll, gathers_all, held_until, stops_unbroken}
@@ -117,6 +118,7 @@ read_as : (counts : Bool) (store : Store) (repo : Repo) (h : History) → repo_v
 read_as counts store repo h same repo_fits fits = let now = read_fits counts store repo h same repo_fits fits in record {
   written = fits.written;
   under_way = fits.under_way;
+  settings = subst (λ (r : RepoState). ReadsSettings fits.written.config r.config) (sym same) fits.settings;
   repo = repo_fits;
   below = now.below;
   there = now.there;

@@ -180,6 +180,7 @@ abbrev pub accepted_as : (counts : Bool) (store : Store) (accepted : Manifest) (
 accepted_as counts store accepted h fits = record {
   written = fits.written;
   under_way = fits.under_way;
+  settings = fits.settings;
   repo = fits.repo;
   below = fits.below;
   there = fits.there;

@@ -14,7 +14,7 @@ use Rattle.ferry_disk.specs.declared.shelf.StoreFault.{StoreFault}
 use Rattle.ferry_disk.specs.declared.shelf.StoreFault.TheVariants as Shelf
 use Rattle.ferry_repo.specs.Opening.{FitsRepo, cached_in, repo_view}
 use Rattle.ferry_stops.specs.Blobs.{BlobOf}
-use Rattle.ferry_store.proofs.SoundLemmas.{counter_kept, since_beside}
+use Rattle.ferry_store.proofs.SoundLemmas.{counter_kept, since_beside, types_beside}
 use Rattle.ferry_store.proofs.StepLemmas.{acts_done, acts_step, step_done, step_moments}
 use Rattle.ferry_store.specs.Content.{IsThere}
 use Rattle.ferry_store.specs.Fault.{store_refusal}
@@ -77,6 +77,7 @@ told_stands counts store written line done h u =
       readme = plain_next h step done Readme ∙ u.readme;
       next = u.next;
       numbers = since_beside store.counter.free step done h tt tt u.counter_fits.free u.numbers;
+      types = types_beside step done h tt u.types;
       taken = λ e. told_taken store.counter.free line done h (u.taken e);
     }
 
@@ -89,6 +90,7 @@ told_fits counts store line h fits =
     record {
       written = fits.written;
       under_way = told_stands counts store fits.written line true h fits.under_way;
+      settings = fits.settings;
       repo = subst (λ (f : Files). FitsRepo f repo (cached_in store.repo)) same fits.repo;
       below = fits.below;
       there = subst (λ (f : Files). (id : List ℕ) → id ≢ zero_id → IsKnown store id → IsThere f repo id) same fits.there;

@@ -1,4 +1,4 @@
-//! Vectors of the standards.
+//! Vectors of the standards, and of OpenSSL 3.0.
 
 use ferry_aes::{Schedule, keystream};
 use std::alloc::Global;
@@ -41,6 +41,12 @@ static OUTPUT_BLOCKS: [u8; 64] = [
     0x29, 0x56, 0xe1, 0xc8, 0x69, 0x35, 0x36, 0xb1, 0xbe, 0xe9, 0x9c, 0x73, 0xa3, 0x15, 0x76, 0xb6,
 ];
 
+/// The blocks of 16 bytes ff and of 16 bytes 00 under the first key, by OpenSSL (`enc -aes-256-ctr` of zeros, with 16 bytes ff as `-iv`).
+static WRAPPED_BLOCKS: [u8; 32] = [
+    0x3b, 0x3c, 0x29, 0x21, 0xc8, 0x5a, 0x24, 0xde, 0x9a, 0xc6, 0x06, 0xce, 0x6d, 0x1d, 0x60, 0xcc,
+    0xe5, 0x68, 0xf6, 0x81, 0x94, 0xcf, 0x76, 0xd6, 0x17, 0x4d, 0x4c, 0xc0, 0x43, 0x10, 0xa8, 0x54,
+];
+
 /// Sixteen times a text.
 fn sixteen_of(text: &[u8; 16]) -> [u8; 256] {
     let mut texts = [0u8; 256];
@@ -67,6 +73,13 @@ fn is_stream(schedule: &Schedule) -> bool {
         &mut stream,
     );
     stream == OUTPUT_BLOCKS
+}
+
+/// Whether the stream from the last counter on goes on with counter 0.
+fn is_wrapped(schedule: &Schedule) -> bool {
+    let mut stream = [0u8; 32];
+    keystream(schedule, u128::MAX, &mut stream);
+    stream == WRAPPED_BLOCKS
 }
 
 /// How many bytes streams have: fewer than a block, some blocks, and more than go sixteen blocks at a time.
@@ -104,7 +117,7 @@ fn are_joined(alloc: Global, schedule: &Schedule) -> bool {
 /// Whether the streams are.
 fn are_streams(alloc: Global) -> bool {
     let schedule = Schedule::new(&KEY);
-    is_stream(&schedule) && are_joined(alloc, &schedule)
+    is_stream(&schedule) && is_wrapped(&schedule) && are_joined(alloc, &schedule)
 }
 
 #[test]

@@ -81,7 +81,7 @@ module _ (store : Store) (h : History) (fits : StoreFits false store h) (none : 
         texts_size = refl;
         config = repo.config;
         unlocks = opened_unlocks (files_now h) source_secret repo opens;
-        plain = subst IsPlain (sym (settled ∙ (ap (λ (r : RepoState). r.manifest) same ∙ first))) (refl, inl refl);
+        plain = subst (IsPlain []) (sym (settled ∙ (ap (λ (r : RepoState). r.manifest) same ∙ first))) (refl, refl);
         archives = empty ∙ sym (entries_none (repo_view store.repo).keys);
         records = tt;
         held = λ scope apart all. (
@@ -184,13 +184,14 @@ source_has count store h most fits settled none made =
           ));
     }
 
--- their manifest is plain
-source_plain : (count : ℕ) (store : Store) (h : History) → count ≤ 64 → StoreFits false store h → IsSettled store → store.pending ≡ 0
+-- their manifest is plain, where there is an archive
+source_plain : (count : ℕ) (store : Store) (h : History) → 1 ≤ count → count ≤ 64 → StoreFits false store h → IsSettled store → store.pending ≡ 0
     → HasMade count store h → HasPlain (files_now h)
 unfolding source_has
-source_plain count store h most fits settled none made repo opens =
-    let is = source_has count store h most fits settled none made in
-    subst IsPlain (settled ∙ ap (λ (r : RepoState). r.manifest) (one_repo (files_now h) source_secret is.repo repo is.opens opens)) made.plain
+source_plain zero store h some most fits settled none made repo opens = absurd (let no : ⊥ = omega (arith, some) in no)
+source_plain (suc count) store h some most fits settled none made repo opens =
+    let is = source_has (suc count) store h most fits settled none made in
+    subst (IsPlain item_names) (settled ∙ ap (λ (r : RepoState). r.manifest) (one_repo (files_now h) source_secret is.repo repo is.opens opens)) made.plain
 
 -- ---- what is told
 
@@ -222,11 +223,11 @@ pub source_told : (count : ℕ) (store : Store) (a : Option Told) → count ≤ 
 source_told count store None most fits settled none made = tt
 source_told count store (Some t) most fits settled none made = source_has count store t.history most fits settled none made
 
-pub plain_told : (count : ℕ) (store : Store) (a : Option Told) → count ≤ 64 → IfSome a (λ t. StoreFits false store t.history) → IsSettled store
+pub plain_told : (count : ℕ) (store : Store) (a : Option Told) → 1 ≤ count → count ≤ 64 → IfSome a (λ t. StoreFits false store t.history) → IsSettled store
     → store.pending ≡ 0
     → IfSome a (λ t. HasMade count store t.history) → IfSome a (λ t. HasPlain (told_files t))
-plain_told count store None most fits settled none made = tt
-plain_told count store (Some t) most fits settled none made = source_plain count store t.history most fits settled none made
+plain_told count store None some most fits settled none made = tt
+plain_told count store (Some t) some most fits settled none made = source_plain count store t.history some most fits settled none made
 
 -- the two parts of that
 pub first_has : (secret : Secret) (store : Store) (timestamp bytes : List ℕ) (a b : Option Told) → secret ≡ source_secret → timestamp ≡ new_time → TellsEmpty a
@@ -251,12 +252,12 @@ pub source_made : (r : Result (Unit {0}) CarryFault) (count : ℕ) (store : Stor
 source_made (Err fault) count store a most fits settled none made = tt
 source_made (Ok x) count store a most fits settled none made = source_told count store a most fits settled none made
 
-pub plain_made : (r : Result (Unit {0}) CarryFault) (count : ℕ) (store : Store) (a : Option Told) → count ≤ 64
+pub plain_made : (r : Result (Unit {0}) CarryFault) (count : ℕ) (store : Store) (a : Option Told) → 1 ≤ count → count ≤ 64
     → OnOk r (IfSome a (λ t. StoreFits false store t.history))
     → OnOk r (IsSettled store) → OnOk r (store.pending ≡ 0) → OnOk r (IfSome a (λ t. HasMade count store t.history))
     → OnOk r (IfSome a (λ t. HasPlain (told_files t)))
-plain_made (Err fault) count store a most fits settled none made = tt
-plain_made (Ok x) count store a most fits settled none made = plain_told count store a most fits settled none made
+plain_made (Err fault) count store a some most fits settled none made = tt
+plain_made (Ok x) count store a some most fits settled none made = plain_told count store a some most fits settled none made
 
 -- a device that told tells behind a body
 pub told_on : (E : History → History → Type 0) (a d : Option Told) → IsSome a → Between a d E → IsSome d

@@ -1,5 +1,5 @@
 -- Lemmas on specs/Steps.antt: the archives that are there, from a new repository on, and what the files say behind them.
-use Rattle.std.proofs.Common.{◌≡◌, ◌≢◌, ◌⊎◌, inl, inr, ◌<◌, ◌+◌, ℕ, suc, false, List, [], ◌∷◌, ◌++◌}
+use Rattle.std.proofs.Common.{◌≡◌, ◌≢◌, inl, ◌<◌, ◌+◌, ℕ, zero, suc, false, List, [], ◌∷◌, ◌++◌}
 use Rattle.std.proofs.Common.{length, Option, Some, None}
 use Rattle.std.proofs.Common.{IfSome, IsSome, refl, sym, ◌∙◌, ap, subst, arith, length-append}
 use Rattle.ferry_base.specs.Limits.{zero_id}
@@ -34,7 +34,7 @@ use Rattle.ferry_gen.proofs.ListLemmas.{contents_then, entries_with, entry_none,
 use Rattle.ferry_gen.specs.Archives.{AreRecordsOf, IsRecordOf, contents_from, drill_items, entries_from, entry_of}
 use Rattle.ferry_gen.specs.Content.{archive_name, archive_time}
 use Rattle.ferry_gen.specs.Source.{IsPlain, item_names, new_time, source_block, source_secret}
-use Rattle.ferry_gen.specs.Steps.{AreHeld, HasMade, PutsArchive, most_pending}
+use Rattle.ferry_gen.specs.Steps.{AreHeld, HasMade, PutsArchive, most_pending, names_behind}
 
 -- ---- chunks
 
@@ -113,14 +113,15 @@ free_told archive store middle entry id (Some t) told low made rest is =
     ∙ (ap (archive_named (archive_name archive)) archives ∙ entry_none keys 0 archive made.texts (omega (arith, made.texts_size)) low)
 
 -- the names of the fields of items, behind those of the archives before
-union_plain : (names : List (List ℕ)) → (names ≡ []) ⊎ (names ≡ item_names) → union names item_names ≡ item_names
+union_plain : (archive : ℕ) → union (names_behind archive) item_names ≡ item_names
 unfolding in_order
-union_plain names (inl none) = ap (λ (l : List (List ℕ)). union l item_names) none ∙ refl
-union_plain names (inr same) = ap (λ (l : List (List ℕ)). union l item_names) same ∙ refl
+union_plain zero = refl
+union_plain (suc archive) = refl
 
-plain_next : (manifest : ManifestText) (entry : ArchiveRef) (time : List ℕ) → time ≡ new_time → IsPlain manifest
-    → IsPlain (written_at (next_manifest manifest entry item_names) time)
-plain_next manifest entry time is plain = (ap Some is, inr (union_plain manifest.item_keys plain.1))
+plain_next : (archive : ℕ) (manifest : ManifestText) (entry : ArchiveRef) (time : List ℕ) → time ≡ new_time → IsPlain (names_behind archive) manifest
+    → IsPlain item_names (written_at (next_manifest manifest entry item_names) time)
+plain_next archive manifest entry time is plain =
+    (ap Some is, ap (λ (l : List (List ℕ)). union l item_names) plain.1 ∙ union_plain archive)
 
 -- an archive whose contents were added is named and committed
 pub made_next : (archive : ℕ) (store middle now : Store) (accepted : Manifest) (entry : ArchiveRef) (time blob id : List ℕ) (a b d : Option Told)
@@ -158,8 +159,8 @@ made_next archive store middle now accepted entry time blob id a b d time_is low
         ∙ ap (λ (m : ManifestText). written_at m time)
         (named_is ∙ ap (λ (m : ManifestText). next_manifest m entry item_names) rest.accepted)
 
-    plain_now : IsPlain (accepted_in store) → IsPlain (accepted_in now)
-    plain_now plain = subst IsPlain (sym accepted_now) (plain_next (accepted_in store) entry time time_is plain)
+    plain_now : IsPlain (names_behind archive) (accepted_in store) → IsPlain item_names (accepted_in now)
+    plain_now plain = subst (IsPlain item_names) (sym accepted_now) (plain_next archive (accepted_in store) entry time time_is plain)
 
     next : (h g k : History) (fits : StoreFits false store h) → HasMade archive store h → Gathers most_pending store puts.puts.0 middle h g
         → Commits named (PutEntry zero_id blob) now g k → HasMade (suc archive) now k × StoreFits false now k
@@ -171,6 +172,7 @@ made_next archive store middle now accepted entry time blob id a b d time_is low
         record {
           written = between.written;
           under_way = between.under_way;
+          settings = between.settings;
           repo = between.repo;
           below = between.below;
           there = between.there;

@@ -1,5 +1,5 @@
 -- The drill's source, and why it isn't made.
-use Rattle.std.specs.Prelude.{◌≡◌, ◌⊎◌, ℕ, codes, [], ◌∷◌, List, Option, Some, None}
+use Rattle.std.specs.Prelude.{◌≡◌, ℕ, codes, [], ◌∷◌, List, Option, Some, None}
 use Rattle.ferry_disk.specs.Act.{History}
 use Rattle.ferry_disk.specs.Device.{Told}
 use Rattle.ferry_disk.specs.Files.{Files, file_at}
@@ -34,13 +34,13 @@ new_time = codes "1970-01-01T00:00:00.000000"
 abbrev pub item_names : List (List ℕ)
 item_names = codes "chunks" ∷ codes "mode" ∷ codes "path" ∷ []
 
--- A manifest has that timestamp, and says of items no name of a field, or these.
-abbrev pub IsPlain : ManifestText → Type 0
-IsPlain manifest = (manifest.timestamp ≡ Some new_time) × ((manifest.item_keys ≡ []) ⊎ (manifest.item_keys ≡ item_names))
+-- A manifest has that timestamp, and these names of items' fields.
+abbrev pub IsPlain : List (List ℕ) → ManifestText → Type 0
+IsPlain names manifest = (manifest.timestamp ≡ Some new_time) × (manifest.item_keys ≡ names)
 
--- The manifest that opens under the source's secret is so.
+-- The manifest that opens under the source's secret has that timestamp, and the names of the items' fields.
 abbrev pub HasPlain : Files → Type 0
-HasPlain files = (repo : RepoState) → OpensFilesTo files source_secret repo → IsPlain repo.manifest
+HasPlain files = (repo : RepoState) → OpensFilesTo files source_secret repo → IsPlain item_names repo.manifest
 
 -- A depot has no file and has made no act.
 pub record IsEmpty (history : History) : Type 0 where

@@ -1,5 +1,5 @@
 -- The source as it comes to be: contents that are added, and archives that are named.
-use Rattle.std.specs.Prelude.{◌≡◌, ◌≤◌, ◌++◌, ◌∷◌, [], ℕ, zero, true, List, length, map, Option, Some, Ok}
+use Rattle.std.specs.Prelude.{◌≡◌, ◌≤◌, ◌++◌, ◌∷◌, [], ℕ, zero, suc, true, List, length, map, Option, Some, Ok}
 use Rattle.std.specs.List.{AllByRecursion}
 use Rattle.ferry_base.specs.Limits.{content_limit}
 use Rattle.ferry_blob.specs.Blob.{content_id}
@@ -24,7 +24,7 @@ use Rattle.ferry_store.specs.Standing.{UnlocksSettings}
 use Rattle.ferry_store.specs.declared.store.Store.{Store}
 use Rattle.ferry_gen.specs.Archives.{AreRecordsOf, IsRecordOf, contents_from, drill_items, entries_from}
 use Rattle.ferry_gen.specs.Fields.{archive_fields}
-use Rattle.ferry_gen.specs.Source.{IsPlain, source_block, source_secret}
+use Rattle.ferry_gen.specs.Source.{IsPlain, item_names, source_block, source_secret}
 
 -- how many pieces may be put before a commit
 abbrev pub most_pending : ℕ
@@ -73,13 +73,18 @@ abbrev pub AreHeld : Files → RepoState → List (List ℕ) → Type 0
 AreHeld files repo contents = (scope : List (List ℕ)) → NoCollision repo.keys scope → AllByRecursion (IsAmong scope) contents
     → HoldsWithin scope files repo × HoldsContents files repo contents
 
+-- the names of items' fields behind so many archives
+abbrev pub names_behind : ℕ → List (List ℕ)
+names_behind zero = []
+names_behind (suc count) = item_names
+
 -- So many archives are there, and no others.
 pub record HasMade (count : ℕ) (store : Store) (history : History) : Type 0 where
   pub texts : List (List ℕ)
   pub texts_size : length texts ≡ count
   pub config : Config
   pub unlocks : UnlocksSettings source_secret (files_now history).config config (repo_view store.repo).keys
-  pub plain : IsPlain (accepted_in store)
+  pub plain : IsPlain (names_behind count) (accepted_in store)
   pub archives : (accepted_in store).archives ≡ entries_from (repo_view store.repo).keys zero texts
   pub records : AreRecordsOf (repo_view store.repo).keys source_block zero texts
   pub held : AreHeld (files_now history) (repo_view store.repo) (contents_from (repo_view store.repo).keys source_block zero texts)

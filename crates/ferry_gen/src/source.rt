@@ -81,6 +81,7 @@ pub fn source_secret(alloc: Global) -> Result<Secret, AllocError>
 /// Makes the source.
 #[tactic(auto, using(ferry_piece::proofs::FaultLemmas::conversions))]
 fn make<D: Depot>(alloc: Global, depot: &mut D, count: u32) -> Result<(), CarryFault>
+    requires least { 1 ≤ count }
     requires most { count ≤ 64 }
     requires empty { TellsEmpty (D.told depot.old) }
     ensures made { OnOk result (IfSome (D.told depot.new) (λ t. IsSource count (told_files t))) }

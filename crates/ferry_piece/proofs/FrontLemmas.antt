@@ -111,7 +111,7 @@ with_read Show Read counts h g sound read =
 pub with_map : (P Q R S : Files → Type 0) (counts : Bool) (k : History) → ((image : Files) → P image → Q image) → ((files : Files) → R files → S files)
     → IsSoundWith P R counts k → IsSoundWith Q S counts k
 with_map P Q R S counts k step read s = record {
-  sound = record { shows = λ image left. step image (s.shows image left); traced = s.traced; numbers = s.numbers; fresh = s.fresh };
+  sound = record { shows = λ image left. step image (s.shows image left); traced = s.traced; numbers = s.numbers; types = s.types; fresh = s.fresh };
   read = read (files_now k) s.read;
 }
 

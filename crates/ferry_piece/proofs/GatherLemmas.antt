@@ -135,6 +135,7 @@ sound_map P Q counts h step s = record {
   shows = λ image left. step image (s.shows image left);
   traced = s.traced;
   numbers = s.numbers;
+  types = s.types;
   fresh = s.fresh;
 }
 

@@ -4,6 +4,7 @@ use Rattle.ferry_piece.specs.declared.fault.CarryFault.{CarryFault}
 use Rattle.ferry_piece.specs.declared.fault.CarryFault.TheVariants.{Source, Target, Taken, NotFound, Pieces, Memory, Record}
 use Rattle.ferry_compare.specs.declared.fault.CompareFault.{CompareFault}
 use Rattle.ferry_compare.specs.declared.fault.CompareFault.TheVariants as Compares
+use Rattle.ferry_nonce.specs.declared.fault.NonceFault.TheVariants as Nonces
 use Rattle.ferry_repo.specs.Fault.{repo_failed}
 use Rattle.ferry_repo.specs.declared.fault.RepoFault.{RepoFault}
 use Rattle.ferry_repo.specs.declared.fault.RepoFault.TheVariants as Repos
@@ -63,3 +64,14 @@ pub record IsOfWork (fault : CarryFault) : Type 0 where
   pub target : target_failed fault ≡ false
   pub random : random_failed fault ≡ false
   pub memory : fault ≢ Memory
+
+-- A fault says that an archive isn't there, or that the target's files don't read or don't open to be written.
+abbrev pub IsOfReading : CarryFault → Type 0
+IsOfReading (NotFound name) = Unit {0}
+IsOfReading (Target (Stores.Repo Repos.Device)) = ⊥
+IsOfReading (Target (Stores.Repo Repos.Memory)) = ⊥
+IsOfReading (Target (Stores.Repo fault)) = Unit {0}
+IsOfReading (Target (Stores.Nonce Nonces.Missing)) = Unit {0}
+IsOfReading (Target (Stores.Nonce Nonces.Text)) = Unit {0}
+IsOfReading (Target Stores.Committed) = Unit {0}
+IsOfReading fault = ⊥

@@ -50,6 +50,7 @@ fits_accepted counts ids middle now g same fits =
       record {
         written = fits.written;
         under_way = fits.under_way;
+        settings = fits.settings;
         repo = fits.repo;
         below = fits.below;
         holds = fits.holds;

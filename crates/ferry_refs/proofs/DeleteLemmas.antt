@@ -1,9 +1,10 @@
 -- Lemmas on specs/Deleting.antt: what was read, dropped and committed is a deletion.
+use Rattle.ferry_mac.specs.declared.keys.Keys.{Keys}
 use Rattle.std.proofs.Common.{◌≡◌, ◌≢◌, ℕ, false, List, length, Option, Some, None, Result, Ok, Err, IfSome, sym, ◌∙◌, ap, subst}
 use Rattle.std.proofs.lemmas.Option.{IfSome_then}
 use Rattle.ferry_piece.proofs.FaultLemmas.{failed_target}
 use Rattle.ferry_piece.proofs.WorkLemmas.{works_err, works_nothing, works_ok}
-use Rattle.ferry_piece.specs.Fault.{IsOfWork, target_failed, target_fault}
+use Rattle.ferry_piece.specs.Fault.{IsOfReading, IsOfWork, target_failed, target_fault}
 use Rattle.ferry_piece.specs.Work.{Works}
 use Rattle.ferry_piece.specs.declared.fault.CarryFault.{CarryFault}
 use Rattle.ferry_piece.specs.declared.fault.CarryFault.TheVariants as Carry
@@ -199,3 +200,28 @@ module _ (told now : Option Told) (repo : RepoState) (name time : List ℕ) (nam
   delete_refused Refusal.TooLarge read refused stops = IfSome_then told read (λ t r. (named, (r, refused)))
   delete_refused Refusal.Entropy read refused stops = IfSome_then told read (λ t r. (named, (r, stops)))
   delete_refused Refusal.Memory read refused stops = told_any told (λ f. Unit {0}) (λ f. tt)
+
+-- ---- a refusal of what is read comes before anything is written
+
+-- no device tells this
+pub told_never : (E P : History → History → Type 0) (a b d : Option Told) → Between a b E → Between b d E → IfSome d (λ t. ⊥) → Between a d P
+told_never E P None b d p q never = tt
+told_never E P (Some t) b d p q never =
+    let each = between_then (Some t) b d E E (λ h g. Unit {0}) (λ h g i e f. tt) p q in
+    absurd (subst (λ (o : Option Told). IfSome o (λ t. ⊥)) each.1 never)
+
+-- of what is written behind it
+pub writing_never : (repo : RepoState) (name time : List ℕ) (keys : Keys) (now : Option Told) (refusal : StoreRefusal)
+    → RefusesWith repo name time now refusal → IfSome now (λ t. StopsAt t.history.start (told_files t) keys refusal) → IsOfReading (target_fault refusal)
+    → IfSome now (λ t. ⊥)
+writing_never repo name time keys now (Refusal.Repo fault) refused stops of = absurd refused
+writing_never repo name time keys now (Refusal.Nonce Nonces.Missing) refused stops of = stops
+writing_never repo name time keys now (Refusal.Nonce Nonces.Text) refused stops of = stops
+writing_never repo name time keys now (Refusal.Nonce Nonces.Exhausted) refused stops of = absurd of
+writing_never repo name time keys now (Refusal.Nonce Nonces.Device) refused stops of = absurd of
+writing_never repo name time keys now (Refusal.Nonce Nonces.Memory) refused stops of = absurd of
+writing_never repo name time keys now (Refusal.Write fault) refused stops of = absurd of
+writing_never repo name time keys now Refusal.Committed refused stops of = stops
+writing_never repo name time keys now Refusal.TooLarge refused stops of = absurd of
+writing_never repo name time keys now Refusal.Entropy refused stops of = absurd of
+writing_never repo name time keys now Refusal.Memory refused stops of = absurd of

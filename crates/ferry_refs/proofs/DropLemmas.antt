@@ -49,6 +49,7 @@ drops_none store h counts fits = (
   record {
     written = fits.written;
     under_way = fits.under_way;
+    settings = fits.settings;
     repo = fits.repo;
     below = fits.below;
     holds = λ id blob apart. (λ live. ((fits.holds id blob apart).1 live, refl), λ has. (fits.holds id blob apart).0 has.0);

@@ -24,6 +24,7 @@ use Rattle.ferry_store.specs.Fault.{repo_refusal}
 use Rattle.ferry_store.specs.Standing.{CommitsManifest, HoldsLive, committed_of, entries_of, live_in}
 use Rattle.ferry_store.specs.State.{Did}
 use Rattle.ferry_store.specs.Store.{IsKnown, StoreFits}
+use Rattle.ferry_store.specs.Types.{ReadsSettings}
 use Rattle.ferry_store.specs.declared.store.Store.{Store}
 use Rattle.ferry_write.specs.Room.{behind}
 use Rattle.ferry_write.specs.Script.{AllDone}
@@ -44,6 +45,7 @@ fits_with counts store repo h same repo_fits fits = (
   record {
     written = fits.written;
     under_way = fits.under_way;
+    settings = subst (λ (r : RepoState). ReadsSettings fits.written.config r.config) (sym same) fits.settings;
     repo = repo_fits;
     below = subst (λ (r : RepoState). r.log.transaction < behind store.session.after) (sym same) fits.below;
     there = λ id apart known.

@@ -1,5 +1,10 @@
 -- Lemmas on specs/Tagging.antt: why archives aren't tagged.
+use Rattle.ferry_piece.specs.Fault.{IsOfReading}
+use Rattle.ferry_nonce.specs.declared.fault.NonceFault.TheVariants as Nonces
+use Rattle.ferry_stops.specs.Tells.{TellsNothing}
+use Rattle.ferry_refs.proofs.DeleteLemmas.{told_never}
 use Rattle.std.proofs.Common.{◌≡◌, inl, inr, false, List, [], ◌∷◌, ◌++◌, ℕ, Option, Some, None, Result, Ok, Err, IsErrAnd, IfSome, refl, sym, ◌∙◌, ap, subst}
+use Rattle.std.proofs.Common.{◌⊎◌}
 use Rattle.std.proofs.lemmas.Option.{IfSome_then}
 use Rattle.ferry_disk.proofs.DeviceLemmas.{told_any}
 use Rattle.ferry_disk.specs.Device.{Told, told_files}
@@ -20,6 +25,7 @@ use Rattle.ferry_store.specs.declared.fault.StoreRefusal.TheVariants as Refusal
 use Rattle.ferry_refs.specs.DeleteSteps.{RefusesGoing}
 use Rattle.ferry_refs.specs.TagSteps.{ReadsOld, RefusesFreeing, RefusesNewRecord, RefusesOneOf, RefusesSome, RefusesWriting}
 use Rattle.ferry_refs.specs.Tagging.{AreOld, AreRenewals, DrawsRenewals, OldRecord, ReadsRecord, RefusesTagging, has_tag, is_old, next_tagged, none_old}
+use Rattle.ferry_refs.specs.Tagging.{IsOfNewRecord}
 use Rattle.ferry_refs.specs.Tagging.{old_record}
 
 -- ---- what wasn't read
@@ -138,6 +144,80 @@ module _ (files : Files) (repo : RepoState) (time : List ℕ) (drawn drawn_now :
   says_one (Carry.NotFound name) one = absurd one.refused
   says_one Carry.Pieces one = absurd one.refused
 
+  -- what is read of it is refused for a chunk under its id alone
+  new_one : (fault : CarryFault) → IsOfReading fault → OneRefused fault
+      → IsOfNewRecord files repo drawn drawn_now now fault ⊎ IfSome now (λ t. ⊥)
+  new_one (Carry.Target (Refusal.Repo (Repos.Blob id f))) of one = inl (
+    record {
+      done = one.done;
+      old = one.old;
+      rest = one.rest;
+      are_old = one.are_old;
+      texts = one.texts;
+      middle = one.middle;
+      drew = one.drew;
+      text = one.refused.0.0;
+      draws = one.refused.0.1.0;
+      id_is = one.refused.0.1.1;
+    },
+    one.refused.1,
+  )
+  new_one (Carry.Target (Refusal.Repo Repos.Device)) of one = absurd of
+  new_one (Carry.Target (Refusal.Repo Repos.Memory)) of one = absurd of
+  new_one (Carry.Target (Refusal.Repo Repos.NoCommit)) of one = absurd one.refused
+  new_one (Carry.Target (Refusal.Repo (Repos.Damaged segment at))) of one = absurd one.refused
+  new_one (Carry.Target (Refusal.Repo (Repos.Config f))) of one = absurd one.refused
+  new_one (Carry.Target (Refusal.Repo (Repos.Key f))) of one = absurd one.refused
+  new_one (Carry.Target (Refusal.Repo (Repos.Missing id))) of one = absurd one.refused
+  new_one (Carry.Target (Refusal.Repo (Repos.Manifest f))) of one = absurd one.refused
+  new_one (Carry.Target (Refusal.Repo (Repos.Archive id f))) of one = absurd one.refused
+  new_one (Carry.Target (Refusal.Repo (Repos.Item id f))) of one = absurd one.refused
+  new_one (Carry.Target (Refusal.Repo (Repos.Size id))) of one = absurd one.refused
+  new_one (Carry.Target (Refusal.Repo (Repos.KeyFile f))) of one = absurd one.refused
+  new_one (Carry.Target (Refusal.Repo (Repos.Other file config))) of one = absurd one.refused
+  new_one (Carry.Target (Refusal.Repo Repos.NoKey)) of one = absurd one.refused
+  new_one (Carry.Target (Refusal.Nonce Nonces.Missing)) of one = inr one.refused
+  new_one (Carry.Target (Refusal.Nonce Nonces.Text)) of one = inr one.refused
+  new_one (Carry.Target (Refusal.Nonce Nonces.Exhausted)) of one = absurd of
+  new_one (Carry.Target (Refusal.Nonce Nonces.Device)) of one = absurd of
+  new_one (Carry.Target (Refusal.Nonce Nonces.Memory)) of one = absurd of
+  new_one (Carry.Target Refusal.Committed) of one = inr one.refused
+  new_one (Carry.Target (Refusal.Write fault)) of one = absurd of
+  new_one (Carry.Target Refusal.TooLarge) of one = absurd of
+  new_one (Carry.Target Refusal.Entropy) of one = absurd of
+  new_one (Carry.Target Refusal.Memory) of one = absurd of
+  new_one (Carry.NotFound name) of one = absurd one.refused
+  new_one (Carry.Source fault) of one = absurd of
+  new_one (Carry.Taken name) of one = absurd of
+  new_one Carry.Pieces of one = absurd of
+  new_one Carry.Memory of one = absurd of
+  new_one Carry.Record of one = absurd of
+
+  new_some : (olds : List OldRecord) (fault : CarryFault) → AreOld files repo repo.manifest.archives olds → IsOfReading fault
+      → RefusesSome repo.keys olds drawn drawn_now now fault → IsOfNewRecord files repo drawn drawn_now now fault ⊎ IfSome now (λ t. ⊥)
+  new_some olds fault old of (inl memory) = absurd (subst IsOfReading memory of)
+  new_some olds fault old of (inr one) = new_one fault of (one_refused olds fault old one)
+
+  pub writing_new : (olds : List OldRecord) (fault : CarryFault) → AreOld files repo repo.manifest.archives olds → IsOfReading fault
+      → RefusesWriting repo time olds drawn drawn_now now fault → IsOfNewRecord files repo drawn drawn_now now fault ⊎ IfSome now (λ t. ⊥)
+  writing_new olds (Carry.Target (Refusal.Repo f)) old of refused = new_some olds (Carry.Target (Refusal.Repo f)) old of refused
+  writing_new olds (Carry.Target (Refusal.Nonce Nonces.Missing)) old of refused = inr refused
+  writing_new olds (Carry.Target (Refusal.Nonce Nonces.Text)) old of refused = inr refused
+  writing_new olds (Carry.Target (Refusal.Nonce Nonces.Exhausted)) old of refused = absurd of
+  writing_new olds (Carry.Target (Refusal.Nonce Nonces.Device)) old of refused = absurd of
+  writing_new olds (Carry.Target (Refusal.Nonce Nonces.Memory)) old of refused = absurd of
+  writing_new olds (Carry.Target Refusal.Committed) old of refused = inr refused
+  writing_new olds (Carry.Target (Refusal.Write fault)) old of refused = absurd of
+  writing_new olds (Carry.Target Refusal.TooLarge) old of refused = absurd of
+  writing_new olds (Carry.Target Refusal.Entropy) old of refused = absurd of
+  writing_new olds (Carry.Target Refusal.Memory) old of refused = absurd of
+  writing_new olds (Carry.NotFound name) old of refused = new_some olds (Carry.NotFound name) old of refused
+  writing_new olds (Carry.Source fault) old of refused = absurd of
+  writing_new olds (Carry.Taken name) old of refused = absurd of
+  writing_new olds Carry.Pieces old of refused = absurd of
+  writing_new olds Carry.Memory old of refused = absurd of
+  writing_new olds Carry.Record old of refused = absurd of
+
   says_some : (olds : List OldRecord) (fault : CarryFault) → AreOld files repo repo.manifest.archives olds
       → RefusesSome repo.keys olds drawn drawn_now now fault → RefusesTagging files repo time drawn drawn_now now fault
   says_some olds fault old (inl memory) = subst (RefusesTagging files repo time drawn drawn_now now) (sym memory) tt
@@ -226,3 +306,18 @@ told_writing_refused store read olds ids None b drawn drawn_now now time fault r
 told_writing_refused store read olds ids (Some told) b drawn drawn_now now time fault reads refused =
     writing_refused (told_files told) (repo_view store.repo) time drawn drawn_now now olds fault reads.2.1.are_old
     (subst (λ (o : Option Told). IfSome o (λ _. RefusesWriting (repo_view store.repo) time olds drawn drawn_now now fault)) reads.1 refused)
+
+-- and that nothing was done, or a chunk under the id of a new record is refused
+pub told_writing_new : (store read : Store) (olds : List OldRecord) (ids : List (List ℕ)) (a b : Option Told) (drawn drawn_now : Option (List ℕ))
+    (now : Option Told) (time : List ℕ) (fault : CarryFault) → Between a b (λ h g. AllDone h g × ReadsOld olds ids store read h g)
+    → Between a b TellsNothing → Between b now TellsNothing
+    → IfSome b (λ _. RefusesWriting (repo_view store.repo) time olds drawn drawn_now now fault) → IsOfReading fault
+    → Between a now (λ h g. g ≡ h) ⊎ IfSome a (λ t. IsOfNewRecord (told_files t) (repo_view store.repo) drawn drawn_now now fault)
+told_writing_new store read olds ids None b drawn drawn_now now time fault reads p q refused of = inl tt
+told_writing_new store read olds ids (Some told) b drawn drawn_now now time fault reads p q refused of =
+    by_sum (writing_new (told_files told) (repo_view store.repo) time drawn drawn_now now olds fault reads.2.1.are_old of
+    (subst (λ (o : Option Told). IfSome o (λ _. RefusesWriting (repo_view store.repo) time olds drawn drawn_now now fault)) reads.1 refused)) where
+      by_sum : IsOfNewRecord (told_files told) (repo_view store.repo) drawn drawn_now now fault ⊎ IfSome now (λ t. ⊥)
+          → Between (Some told) now (λ h g. g ≡ h) ⊎ IsOfNewRecord (told_files told) (repo_view store.repo) drawn drawn_now now fault
+      by_sum (inl new) = inr new
+      by_sum (inr never) = inl (told_never TellsNothing (λ h g. g ≡ h) (Some told) b now p q never)

@@ -54,6 +54,7 @@ accepted_fits counts store now h same fits =
       record {
         written = fits.written;
         under_way = fits.under_way;
+        settings = fits.settings;
         repo = fits.repo;
         below = fits.below;
         there = fits.there;

@@ -10,7 +10,7 @@ use Rattle.ferry_repo.specs.Opening.{RepoState}
 use Rattle.ferry_repo.specs.declared.fault.RepoFault.TheVariants as Repos
 use Rattle.ferry_store.specs.declared.fault.StoreRefusal.TheVariants as Stores
 use Rattle.ferry_refs.proofs.SameLemmas.{LieIn, are_read_same, record_same, refs_refused_same}
-use Rattle.ferry_refs.specs.Tagging.{AreFreed, AreOld, IsFreed, OldRecord, ReadsRecord, RefusesTagging, has_tag, is_old, none_old}
+use Rattle.ferry_refs.specs.Tagging.{AreFreed, AreOld, IsFreed, IsNewId, IsOfNewRecord, OldRecord, ReadsRecord, RefusesTagging, has_tag, is_old, none_old}
 
 module _ (files other : Files) (repo : RepoState) (lie : LieIn files other repo) where
   record_read_same : (named : ArchiveRef) (archive : ArchiveText) → ReadsRecord files repo named archive → ReadsRecord other repo named archive
@@ -45,6 +45,53 @@ freed_same files other repo ids lie back freed = record {
   );
 }
 
+-- an id of a new record
+new_id_same : (files other : Files) (repo : RepoState) (drawn drawn_now : Option (List ℕ)) (id : List ℕ) → LieIn files other repo
+    → IsNewId files repo drawn drawn_now id → IsNewId other repo drawn drawn_now id
+new_id_same files other repo drawn drawn_now id lie new = record {
+  done = new.done;
+  old = new.old;
+  rest = new.rest;
+  are_old = old_same files other repo lie repo.manifest.archives (new.done ++ new.old ∷ new.rest) new.are_old;
+  texts = new.texts;
+  middle = new.middle;
+  drew = new.drew;
+  text = new.text;
+  draws = new.draws;
+  id_is = new.id_is;
+}
+
+pub new_record_same : (files other : Files) (repo : RepoState) (drawn drawn_now : Option (List ℕ)) (now : Option Told) (fault : CarryFault)
+    → LieIn files other repo → IsOfNewRecord files repo drawn drawn_now now fault → IsOfNewRecord other repo drawn drawn_now now fault
+new_record_same files other repo drawn drawn_now now (Carry.Target (Stores.Repo (Repos.Blob id f))) lie new =
+    (new_id_same files other repo drawn drawn_now id lie new.0, new.1)
+new_record_same files other repo drawn drawn_now now (Carry.Target (Stores.Repo Repos.NoCommit)) lie new = absurd new
+new_record_same files other repo drawn drawn_now now (Carry.Target (Stores.Repo (Repos.Damaged segment at))) lie new = absurd new
+new_record_same files other repo drawn drawn_now now (Carry.Target (Stores.Repo (Repos.Config f))) lie new = absurd new
+new_record_same files other repo drawn drawn_now now (Carry.Target (Stores.Repo (Repos.Key f))) lie new = absurd new
+new_record_same files other repo drawn drawn_now now (Carry.Target (Stores.Repo (Repos.Missing id))) lie new = absurd new
+new_record_same files other repo drawn drawn_now now (Carry.Target (Stores.Repo (Repos.Manifest f))) lie new = absurd new
+new_record_same files other repo drawn drawn_now now (Carry.Target (Stores.Repo (Repos.Archive id f))) lie new = absurd new
+new_record_same files other repo drawn drawn_now now (Carry.Target (Stores.Repo (Repos.Item id f))) lie new = absurd new
+new_record_same files other repo drawn drawn_now now (Carry.Target (Stores.Repo (Repos.Size id))) lie new = absurd new
+new_record_same files other repo drawn drawn_now now (Carry.Target (Stores.Repo (Repos.KeyFile f))) lie new = absurd new
+new_record_same files other repo drawn drawn_now now (Carry.Target (Stores.Repo (Repos.Other file config))) lie new = absurd new
+new_record_same files other repo drawn drawn_now now (Carry.Target (Stores.Repo Repos.NoKey)) lie new = absurd new
+new_record_same files other repo drawn drawn_now now (Carry.Target (Stores.Repo Repos.Device)) lie new = absurd new
+new_record_same files other repo drawn drawn_now now (Carry.Target (Stores.Repo Repos.Memory)) lie new = absurd new
+new_record_same files other repo drawn drawn_now now (Carry.Target (Stores.Nonce f)) lie new = absurd new
+new_record_same files other repo drawn drawn_now now (Carry.Target (Stores.Write f)) lie new = absurd new
+new_record_same files other repo drawn drawn_now now (Carry.Target Stores.Committed) lie new = absurd new
+new_record_same files other repo drawn drawn_now now (Carry.Target Stores.TooLarge) lie new = absurd new
+new_record_same files other repo drawn drawn_now now (Carry.Target Stores.Entropy) lie new = absurd new
+new_record_same files other repo drawn drawn_now now (Carry.Target Stores.Memory) lie new = absurd new
+new_record_same files other repo drawn drawn_now now (Carry.Source f) lie new = absurd new
+new_record_same files other repo drawn drawn_now now (Carry.Taken name) lie new = absurd new
+new_record_same files other repo drawn drawn_now now (Carry.NotFound name) lie new = absurd new
+new_record_same files other repo drawn drawn_now now Carry.Pieces lie new = absurd new
+new_record_same files other repo drawn drawn_now now Carry.Memory lie new = absurd new
+new_record_same files other repo drawn drawn_now now Carry.Record lie new = absurd new
+
 -- why archives aren't tagged
 pub tag_refused_same : (files other : Files) (repo : RepoState) (time : List ℕ) (drawn drawn_now : Option (List ℕ)) (now : Option Told) (fault : CarryFault)
     → LieIn files other repo → RefusesTagging files repo time drawn drawn_now now fault → RefusesTagging other repo time drawn drawn_now now fault
@@ -52,22 +99,7 @@ tag_refused_same files other repo time drawn drawn_now now (Carry.Target (Stores
 tag_refused_same files other repo time drawn drawn_now now (Carry.Target (Stores.Repo (Repos.Blob id f))) lie (inl refused) =
     inl (refs_refused_same files other repo lie (Repos.Blob id f) refused)
 tag_refused_same files other repo time drawn drawn_now now (Carry.Target (Stores.Repo (Repos.Blob id f))) lie (inr refused) =
-    let new = refused.0 in
-    inr (
-      record {
-        done = new.done;
-        old = new.old;
-        rest = new.rest;
-        are_old = old_same files other repo lie repo.manifest.archives (new.done ++ new.old ∷ new.rest) new.are_old;
-        texts = new.texts;
-        middle = new.middle;
-        drew = new.drew;
-        text = new.text;
-        draws = new.draws;
-        id_is = new.id_is;
-      },
-      refused.1,
-    )
+    inr (new_id_same files other repo drawn drawn_now id lie refused.0, refused.1)
 tag_refused_same files other repo time drawn drawn_now now (Carry.Target (Stores.Repo Repos.NoCommit)) lie refused =
     (refused.0, refs_refused_same files other repo lie Repos.NoCommit refused.1)
 tag_refused_same files other repo time drawn drawn_now now (Carry.Target (Stores.Repo (Repos.Damaged segment at))) lie refused =

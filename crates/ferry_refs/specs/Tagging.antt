@@ -321,12 +321,18 @@ pub record IsNewId (files : Files) (repo : RepoState) (drawn drawn_now : Option 
   pub draws : DrawsRenewal repo.keys old.archive text middle drawn_now
   pub id_is : id ≡ content_id repo.keys text
 
+-- A fault is one of a chunk that is live under the id of the new record of an archive, and breaks a rule.
+abbrev pub IsOfNewRecord : Files → RepoState → Option (List ℕ) → Option (List ℕ) → Option Told → CarryFault → Type 0
+IsOfNewRecord files repo drawn drawn_now now (Target (Repo (Repos.Blob id fault))) =
+    IsNewId files repo drawn drawn_now id × IfSome now (λ t. BreaksLive (told_files t) repo.keys id fault)
+IsOfNewRecord files repo drawn drawn_now now fault = ⊥
+
 -- Why archives aren't tagged: an archive's record or stream doesn't read; or a chunk is live under the id of a new record, and its blob breaks a rule; or a new
 -- record is too large, or the manifest with them; or what a refusal of the target says holds of its files as they are then.
 abbrev pub RefusesTagging : Files → RepoState → List ℕ → Option (List ℕ) → Option (List ℕ) → Option Told → CarryFault → Type 0
 RefusesTagging files repo time drawn drawn_now now (Target (Repo Repos.Device)) = Unit {0}
 RefusesTagging files repo time drawn drawn_now now (Target (Repo (Repos.Blob id fault))) = RefusesRefs files repo (Repos.Blob id fault)
-    ⊎ (IsNewId files repo drawn drawn_now id × IfSome now (λ t. BreaksLive (told_files t) repo.keys id fault))
+    ⊎ IsOfNewRecord files repo drawn drawn_now now (Target (Repo (Repos.Blob id fault)))
 RefusesTagging files repo time drawn drawn_now now (Target (Repo fault)) = IsOfFiles fault × RefusesRefs files repo fault
 RefusesTagging files repo time drawn drawn_now now (Target TooLarge) = HasLargeTagged files repo time
 RefusesTagging files repo time drawn drawn_now now (Target refusal) = IfSome now (λ t. StopsAt t.history.start (told_files t) repo.keys refusal)

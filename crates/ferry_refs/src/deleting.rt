@@ -2,7 +2,7 @@
 ghost use Rattle.std.specs.Prelude.{◌≡◌, ◌⊎◌, false, None, Err, IfOk, IfErr, IfSome, OnOk};
 ghost use Rattle.std.specs.List.{AllByRecursion};
 ghost use Rattle.std.specs.Option.{option_copied};
-ghost use Rattle.ferry_piece.specs.Fault.{IsOfWork, random_failed, shelf_failed};
+ghost use Rattle.ferry_piece.specs.Fault.{IsOfReading, IsOfWork, random_failed, shelf_failed};
 ghost use Rattle.ferry_piece.specs.Work.{Works};
 ghost use Rattle.ferry_piece.specs.declared.fault.CarryFault.TheVariants as Carry;
 ghost use Rattle.ferry_check.specs.Verify.{IsChunk, IsNamed};
@@ -51,6 +51,8 @@ pub fn delete<D: Depot, E: Entropy>(
     ensures untold { Between (D.told depot.old) (D.told depot.new) TellsNothing }
     ensures refused { IfErr result (λ fault. IfSome (D.told depot.old) (λ t. RefusesDelete (told_files t) (repo_view store.old.repo) name.now
         (time_of (option_copied timestamp.entry) (repo_view store.old.repo).manifest) (D.told depot.new) fault)) }
+    // Where the name isn't there, or the repository doesn't read, nothing is done.
+    ensures unwritten { IfErr result (λ fault. IsOfReading fault → Between (D.told depot.old) (D.told depot.new) (λ h g. g ≡ h)) }
     // Where no archive has the name, that is answered, but for want of memory, and nothing is done.
     ensures nothing { archive_named name.now (repo_view store.old.repo).manifest.archives ≡ None → (depot.new ≡ depot.old)
         × ((result ≡ Err (Carry.NotFound name.now)) ⊎ (result ≡ Err Carry.Memory)) }
@@ -83,6 +85,7 @@ fn read_going<D: Depot>(
         (D.told depot.old) (D.told depot.new) (D.faults depot.old) (D.faults depot.new) result }
     ensures untold { Between (D.told depot.old) (D.told depot.new) TellsNothing }
     ensures read { ReadsStore store.old store.new }
+    ensures same { Between (D.told depot.old) (D.told depot.new) (λ h g. g ≡ h) }
     ensures chunks { IfOk result (λ ids. AllByRecursion (IsChunk (repo_view store.old.repo).log) ids.items) }
     ensures fits { OnOk result (IfSome (D.told depot.new) (λ t. StoreFits false store.new t.history)) }
     ensures refused { IfErr result (RefusesGoing (D.told depot.old) (repo_view store.old.repo)) }

@@ -1,5 +1,5 @@
 //! Archives whose records get an authentication tag.
-ghost use Rattle.std.specs.Prelude.{◌≡◌, ◌≢◌, ◌<◌, ◌++◌, ℕ, List, false, length, option_map, IfOk, IfErr, IfSome, OnOk};
+ghost use Rattle.std.specs.Prelude.{◌≡◌, ◌≢◌, ◌<◌, ◌++◌, ℕ, List, false, length, option_map, IfOk, IfErr, IfSome, OnOk, ◌⊎◌};
 ghost use Rattle.std.specs.List.{AllByRecursion};
 ghost use Rattle.std.specs.Option.{option_copied};
 ghost use Rattle.ferry_check.specs.Verify.{IsChunk};
@@ -9,12 +9,12 @@ ghost use Rattle.ferry_manifest.specs.Manifest.Writing.{IsPackable};
 ghost use Rattle.ferry_manifest.specs.Record.Text.{archive_view};
 ghost use Rattle.ferry_manifest.specs.Record.Writing.{IsPackableArchive};
 ghost use Rattle.ferry_next.specs.Next.{written_at};
-ghost use Rattle.ferry_piece.specs.Fault.{IsOfWork, random_failed, shelf_failed};
+ghost use Rattle.ferry_piece.specs.Fault.{IsOfReading, IsOfWork, random_failed, shelf_failed};
 ghost use Rattle.ferry_piece.specs.Work.{Works};
 ghost use Rattle.ferry_refs.specs.DeleteSteps.{RefusesGoing};
 ghost use Rattle.ferry_refs.specs.Deleting.{LeavesCommitted, time_of};
 ghost use Rattle.ferry_refs.specs.TagSteps.{Frees, FreesSound, IsNamedIn, ReadsOld, RefusesFreeing, RefusesWriting, SoundTagged, TagsWith, olds_view};
-ghost use Rattle.ferry_refs.specs.Tagging.{RefusesTagging, Tags, TagsSound};
+ghost use Rattle.ferry_refs.specs.Tagging.{RefusesTagging, Tags, TagsSound, IsOfNewRecord};
 ghost use Rattle.ferry_repo.specs.Opening.{repo_view};
 ghost use Rattle.ferry_stops.specs.Tells.{TellsNothing};
 ghost use Rattle.ferry_store.specs.Causes.{StopsAt};
@@ -62,6 +62,10 @@ pub fn tag_archives<D: Depot, E: Entropy>(
     ensures untold { Between (D.told depot.old) (D.told depot.new) TellsNothing }
     ensures refused { IfErr result (λ fault. IfSome (D.told depot.old) (λ t. RefusesTagging (told_files t) (repo_view store.old.repo)
         (time_of (option_copied timestamp.entry) (repo_view store.old.repo).manifest) (E.drawn entropy.old) (E.drawn entropy.new) (D.told depot.new) fault)) }
+    // Where the repository doesn't read, nothing is done, unless what doesn't is a chunk that is live under the id of a new record.
+    ensures unwritten { IfErr result (λ fault. IsOfReading fault → Between (D.told depot.old) (D.told depot.new) (λ h g. g ≡ h)
+        ⊎ IfSome (D.told depot.old) (λ t. IsOfNewRecord (told_files t) (repo_view store.old.repo) (E.drawn entropy.old) (E.drawn entropy.new)
+        (D.told depot.new) fault)) }
     // Where no device failed and memory wasn't refused, nothing is committed.
     ensures keeps { IfErr result (λ fault. IsOfWork fault → Between (D.told depot.old) (D.told depot.new) (LeavesCommitted store.old)) }
     ensures shelf { IfErr result (λ fault. shelf_failed fault ≡ false) }
@@ -88,6 +92,7 @@ fn read_old<D: Depot>(
         (D.told depot.old) (D.told depot.new) (D.faults depot.old) (D.faults depot.new) result }
     ensures untold { Between (D.told depot.old) (D.told depot.new) TellsNothing }
     ensures read { ReadsStore store.old store.new }
+    ensures same { Between (D.told depot.old) (D.told depot.new) (λ h g. g ≡ h) }
     ensures chunks { IfOk result (λ old. AllByRecursion (IsChunk (repo_view store.old.repo).log) old.freed.items) }
     ensures named { IfOk result (λ old. AllByRecursion (λ u. IsNamedIn (repo_view store.old.repo).manifest u.named) old.untagged.items) }
     ensures packable { IfOk result (λ old. AllByRecursion (λ u. IsPackableArchive (archive_view u.archive)) old.untagged.items) }

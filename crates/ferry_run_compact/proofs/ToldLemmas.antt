@@ -16,11 +16,12 @@ use Rattle.ferry_disk.specs.Files.{Files, contents_at}
 use Rattle.ferry_disk.specs.Moments.{Between}
 use Rattle.ferry_disk.specs.declared.name.Name.TheVariants.{Config as ConfigFile}
 use Rattle.ferry_log.specs.State.{IsStateOf, LogState}
+use Rattle.ferry_nonce.specs.Counter.{KeepsNumbers}
 use Rattle.ferry_store.proofs.StepLemmas.{after_same, did_then, failed_then, known_then, rose_then}
 use Rattle.ferry_store.specs.Fault.{depot_failed}
 use Rattle.ferry_store.specs.State.{Did, IsStep}
 use Rattle.ferry_store.specs.declared.fault.StoreRefusal.{StoreRefusal}
-use Rattle.ferry_status.proofs.TellLemmas.{AreSome, fail_as, first_then, keeps_then, numbers_then, rose_as, stops_then}
+use Rattle.ferry_status.proofs.TellLemmas.{AreSome, fail_as, first_then, keeps_then, rose_as, stays_then, stops_then, tell_numbers}
 use Rattle.ferry_run_compact.specs.Compact.{CompactRemoves, HasCompacted, ReadsTarget}
 use Rattle.ferry_run_compact.specs.Compact.{CompactEach, KeepsObjects}
 use Rattle.ferry_run_compact.specs.Compact.{compact_refusal, compacted_line}
@@ -36,7 +37,7 @@ each_then line h g i each done some is = (
   λ e transaction log log_is. stops_then (KeepsObjects log (files_now h)) line h g i (each.0 e transaction log log_is) done is,
   (
     keeps_then line h g i each.1.0 done is,
-    (numbers_then line h g i each.1.1.0 done is, first_then (TellOf line) h g i each.1.1.1 (λ e. some) is),
+    (stays_then KeepsNumbers line h g i (λ d k. tell_numbers line d k) each.1.1.0 done is, first_then (TellOf line) h g i each.1.1.1 (λ e. some) is),
   ),
 )
 

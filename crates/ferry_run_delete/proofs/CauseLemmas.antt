@@ -135,9 +135,10 @@ module _ (asked : Deletion) (start : Files) (now : Told) (ready : OpensNumbered 
   begun_ends (Stores.Write Writes.Device) refused = tt
   begun_ends (Stores.Write Writes.Memory) refused = tt
   begun_ends (Stores.Write Writes.Numbers) refused = absurd refused
-  begun_ends (Stores.Nonce Nonces.Missing) refused = absurd (let e : None ≡ Some ready.text = sym refused.1.0 ∙ ready.nonce in let no : ⊥ = cc in no)
+  begun_ends (Stores.Nonce Nonces.Missing) refused =
+      absurd (let e : None ≡ Some ready.nonce.text = sym refused.1.0 ∙ ready.nonce.nonce in let no : ⊥ = cc in no)
   begun_ends (Stores.Nonce Nonces.Text) refused =
-      absurd (refused.1 ready.number (subst (λ (o : Option (List ℕ)). IsNonce o ready.number) (sym ready.nonce) ready.spelled))
+      absurd (refused.1 ready.nonce.number (subst (λ (o : Option (List ℕ)). IsNonce o ready.nonce.number) (sym ready.nonce.nonce) ready.nonce.spelled))
   begun_ends (Stores.Nonce Nonces.Exhausted) refused = absurd refused.1
   begun_ends (Stores.Nonce Nonces.Device) refused = tt
   begun_ends (Stores.Nonce Nonces.Memory) refused = tt

@@ -2,7 +2,7 @@
 use Rattle.std.proofs.Common.{inr, inl, Option, Some, None, refl}
 use Rattle.ferry_disk.specs.Device.{Told}
 use Rattle.ferry_piece.specs.declared.fault.CarryFault.TheVariants as Carry
-use Rattle.ferry_status.proofs.OpenedLemmas.{shut_here}
+use Rattle.ferry_status.proofs.OpenedLemmas.{memory_number, shut_here}
 use Rattle.ferry_run_delete.proofs.CauseLemmas.{deletes_done}
 use Rattle.ferry_run_delete.proofs.ShowLemmas.{DeleteEach, Deletion, each_opened, some_left}
 use Rattle.ferry_run_delete.specs.Delete.{DeletesArchive, LeavesOthers, RefusesDeletion}
@@ -26,6 +26,7 @@ pub deletes_nothing : (asked : Deletion) (all : Devices) → DeletesArchive aske
 deletes_nothing asked all =
     let told = all.target.told in
     record {
+      unwritten = λ unread. absurd (let no : ⊥ = cc in no);
       completes = deletes_done asked told told Statuses.Memory (inr (memory_is asked told told));
       changes = record {
         source = refl;
@@ -36,6 +37,7 @@ deletes_nothing asked all =
             (λ h. some_left asked h h (each_opened asked h h (each_here h)).0);
         kept = λ work. absurd (let no : ⊥ = cc in no);
         shut = shut_here asked.secret told;
+        number = memory_number (λ fault. ⊥) asked.secret told;
         each = here_each (DeleteEach asked) told (λ h. (each_opened asked h h (each_here h)).0);
       };
     }

@@ -6,6 +6,7 @@ use Rattle.ferry_check.specs.Verify.{IsNamed}
 use Rattle.ferry_disk.specs.Act.{History, files_now}
 use Rattle.ferry_disk.specs.Device.{Told, told_files}
 use Rattle.ferry_disk.specs.Files.{Files}
+use Rattle.ferry_disk.specs.Moments.{Between}
 use Rattle.ferry_refs.specs.Deleting.{AreGoing, HasLargeManifest, KeepsOthers, LacksManifestBlocks, RefusesDelete, time_of}
 use Rattle.ferry_repo.specs.Opening.{OpensFilesTo, RepoState}
 use Rattle.ferry_repo.specs.declared.secret.Secret.{Secret}
@@ -13,10 +14,12 @@ use Rattle.ferry_stops.specs.Tells.{lines_of}
 use Rattle.ferry_store.specs.Causes.{HasLastSegment}
 use Rattle.ferry_text.specs.Text.{escaped}
 use Rattle.ferry_status.specs.Devices.{Devices}
+use Rattle.ferry_status.specs.Status.{is_unread}
 use Rattle.ferry_status.specs.declared.status.Limit.{Limit}
 use Rattle.ferry_status.specs.declared.status.Limit.TheVariants as Limits
 use Rattle.ferry_status.specs.declared.status.Status.{Status}
 use Rattle.ferry_status.specs.Opened.{ChangesArchives, IsDoneUnless, OpensNumbered}
+use Rattle.ferry_write.specs.Front.{OnlyRemoves}
 
 -- the line that is told of an archive that was deleted, with the number of chunks that went with it
 abbrev pub deleted_line : List ℕ → ℕ → List ℕ
@@ -63,9 +66,10 @@ DeletesDone secret name timestamp before now status = IfSome before (λ b. IfSom
 
 -- An archive of the target is deleted with the chunks that no other uses, and how many these were is told. Where it is there, and the record and the stream
 -- of each archive read, that is done, unless memory is refused, a device fails or a limit is met. The archives are unchanged but for this one, which is there
--- or gone.
+-- or gone. Where the target is refused, or no archive has the name, no segment came or changed.
 pub record DeletesArchive (secret : Secret) (name : List ℕ) (timestamp : Option (List ℕ)) (before : Devices) (status : Status) (after : Devices)
     : Type 0 where
   pub changes : ChangesArchives secret (LeavesOthers secret name timestamp) (HasDeleted secret name timestamp) (RefusesDeletion name timestamp)
       before status after
+  pub unwritten : is_unread status ≡ true → Between before.target.told after.target.told OnlyRemoves
   pub completes : DeletesDone secret name timestamp before.target.told after.target.told status

@@ -1,7 +1,7 @@
 //! The command that deletes an archive.
 ghost use Rattle.std.specs.Option.{option_copied};
 ghost use Rattle.std.specs.Prelude.{◌≡◌, ◌⊎◌, ℕ, [], false, true, IfErr, IfOk, IfSome};
-ghost use Rattle.ferry_piece.specs.Fault.{IsOfWork, random_failed, shelf_failed};
+ghost use Rattle.ferry_piece.specs.Fault.{IsOfReading, IsOfWork, random_failed, shelf_failed};
 ghost use Rattle.ferry_piece.specs.Work.{Works};
 ghost use Rattle.ferry_disk.specs.Act.{TellOf, with_act};
 ghost use Rattle.ferry_disk.specs.Device.{HasCause, RoseWhere};
@@ -13,11 +13,12 @@ ghost use Rattle.ferry_store.specs.Store.{OpenLeaves};
 ghost use Rattle.ferry_run_delete.specs.Delete.{DeletesDone, HasDeleted, LeavesOthers, RefusesDeletion};
 ghost use Rattle.ferry_run_delete.specs.Delete.{deleted_line};
 ghost use Rattle.ferry_run_delete.specs.Steps.{GoesAway};
-ghost use Rattle.ferry_status.specs.Status.{carry_status, entropy_failed, is_of_work, output_failed, source_failed as of_source, target_failed};
+ghost use Rattle.ferry_status.specs.Status.{carry_status, entropy_failed, is_of_work, is_unread, output_failed, source_failed as of_source, target_failed};
 ghost use Rattle.ferry_status.specs.Telling.{RefusesTelling};
 ghost use Rattle.ferry_status.specs.declared.status.Status.TheVariants as TheStatus;
-ghost use Rattle.ferry_status.specs.Opened.{ChangesEach, ChangesLeave, LeavesAll, RefusesChange};
+ghost use Rattle.ferry_status.specs.Opened.{ChangesEach, ChangesLeave, EndsNumbered, LeavesAll, NeedsNumber, RefusesChange};
 ghost use Rattle.ferry_status.specs.Devices.{IsRefusedBy};
+ghost use Rattle.ferry_write.specs.Front.{OnlyRemoves};
 
 use ferry_base::Bytes;
 use ferry_disk::{Depot, Entropy};
@@ -49,8 +50,11 @@ pub fn delete<D: Depot, E: Entropy>(
     ensures ended { result ≡ TheStatus.Done → Between (D.told target.old) (D.told target.new) (λ h g.
         h.acts ≡ [] → HasDeleted secret.now name timestamp h g) }
     ensures left { Between (D.told target.old) (D.told target.new) (ChangesLeave secret.now (LeavesOthers secret.now name timestamp)) }
-    // Where the target doesn't open, nothing is done.
+    // Where the target doesn't open, or has no number in its file `nonce`, it is refused for that, and nothing is done.
     ensures shut { Between (D.told target.old) (D.told target.new) (OpenLeaves secret.now) }
+    ensures number { EndsNumbered (λ fault. ⊥) secret.now (D.told target.old) result }
+    // Where the target is refused, or no archive has the name, each segment is as it was, or is gone.
+    ensures unwritten { is_unread result ≡ true → Between (D.told target.old) (D.told target.new) OnlyRemoves }
     ensures kept { is_of_work result ≡ true
         → Between (D.told target.old) (D.told target.new) (LeavesAll secret.now (LeavesOthers secret.now name timestamp)) }
     ensures refused { (result ≡ TheStatus.Done) ⊎ IsRefusedBy carry_status
@@ -88,6 +92,8 @@ fn delete_and_tell<D: Depot, E: Entropy>(
     ensures kept { IfErr result (λ fault. IsOfWork fault
         → Between (D.told target.old) (D.told target.new) (LeavesAll secret.now (LeavesOthers secret.now name.now timestamp.now))) }
     ensures shut { Between (D.told target.old) (D.told target.new) (OpenLeaves secret.now) }
+    ensures number { NeedsNumber (λ fault. ⊥) secret.now (D.told target.old) result }
+    ensures unwritten { IfErr result (λ fault. IsOfReading fault → Between (D.told target.old) (D.told target.new) OnlyRemoves) }
     ensures shelf { IfErr result (λ fault. shelf_failed fault ≡ false) }
     ensures entropy { HasCause random_failed (E.faults entropy.old) (E.faults entropy.new) result }
 {
@@ -115,6 +121,8 @@ fn delete_archive<D: Depot, E: Entropy>(
     ensures kept { IfErr result (λ fault. IsOfWork fault
         → Between (D.told target.old) (D.told target.new) (LeavesAll secret.now (LeavesOthers secret.now name.now timestamp.now))) }
     ensures shut { Between (D.told target.old) (D.told target.new) (OpenLeaves secret.now) }
+    ensures number { NeedsNumber (λ fault. ⊥) secret.now (D.told target.old) result }
+    ensures unwritten { IfErr result (λ fault. IsOfReading fault → Between (D.told target.old) (D.told target.new) OnlyRemoves) }
     ensures shelf { IfErr result (λ fault. shelf_failed fault ≡ false) }
     ensures entropy { HasCause random_failed (E.faults entropy.old) (E.faults entropy.new) result }
 {

@@ -45,7 +45,7 @@ unfolding blocks_from
 blocks_size archive file first zero = refl
 blocks_size archive file first (suc count) = omega (arith, blocks_size archive file (suc first) count)
 
-blocks_long : (archive file first count : ℕ) → AllByRecursion (λ (content : List ℕ). length content ≡ 512) (blocks_from archive file first count)
+pub blocks_long : (archive file first count : ℕ) → AllByRecursion (λ (content : List ℕ). length content ≡ 512) (blocks_from archive file first count)
 unfolding blocks_from
 blocks_long archive file first zero = tt
 blocks_long archive file first (suc count) = (span_size archive file (first * 512) 512, blocks_long archive file (suc first) count)

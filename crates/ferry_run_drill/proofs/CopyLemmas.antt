@@ -28,7 +28,7 @@ use Rattle.ferry_gen.proofs.MadeLemmas.{settings_read}
 use Rattle.ferry_gen.proofs.MadeFilesLemmas.{shows}
 use Rattle.ferry_gen.specs.Archives.{AreRecordsOf, HasArchives, contents_from, drill_archive, entries_from}
 use Rattle.ferry_gen.specs.Content.{archive_name}
-use Rattle.ferry_gen.specs.Source.{IsSource, source_block, source_secret}
+use Rattle.ferry_gen.specs.Source.{HasPlain, IsSource, item_names, source_block, source_secret}
 use Rattle.ferry_mac.specs.declared.keys.Keys.{Keys}
 use Rattle.ferry_manifest.specs.Manifest.Text.{ManifestText}
 use Rattle.ferry_manifest.specs.declared.manifest.ArchiveRef.{ArchiveRef}
@@ -48,8 +48,10 @@ use Rattle.ferry_store.specs.Store.{InitEach, InitFits, InitMakes, StoreFits}
 use Rattle.ferry_store.specs.declared.store.Store.{Store}
 use Rattle.ferry_run_transfer.specs.Transfer.{chosen_of}
 use Rattle.ferry_run_drill.proofs.NameLemmas.{AreListed, SaysAll, all_lines, all_listed, all_new, all_next, below_none, entry_names, name_of, names_from}
-use Rattle.ferry_run_drill.proofs.NameLemmas.{texts_of}
-use Rattle.ferry_run_drill.proofs.OpenLemmas.{all_open, new_archives, none_live}
+use Rattle.ferry_run_drill.proofs.ManifestLemmas.{names_come}
+use Rattle.ferry_run_drill.proofs.NameLemmas.{names_size, texts_of}
+use Rattle.ferry_run_drill.proofs.OpenLemmas.{accepts_first, all_open, new_archives, none_live, open_manifest}
+use Rattle.ferry_run_drill.proofs.MetaLemmas.{meta_is, streams_all}
 use Rattle.ferry_run_drill.proofs.NewLemmas.{PutsNew, puts_new}
 use Rattle.ferry_run_drill.proofs.TotalLemmas.{counts_all, totals_are}
 use Rattle.ferry_run_drill.specs.Drill.{HasCopied, NoneCollide, drill_time, target_block, target_secret}
@@ -163,7 +165,8 @@ module _ (count : ℕ) (source : Files) (is : IsSource count source) (repo : Rep
         }
 
     -- where no contents collide there, each content is put once
-    put_total : 1 ≤ count → NoneCollide has_archives → (carried.chunks ≡ 280 * count + 8) × (carried.bytes ≡ 512 * (280 * count + 8))
+    put_total : 1 ≤ count → NoneCollide has_archives
+        → (carried.chunks ≡ 280 * count + 8) × ((carried.bytes ≡ 512 * (280 * count + 8)) × (carried.meta ≡ count))
     unfolding has_archives
     put_total some apart =
         let scope = contents_from keys target_block 0 texts in
@@ -171,20 +174,35 @@ module _ (count : ℕ) (source : Files) (is : IsSource count source) (repo : Rep
         let puts : PutsNew [] c.added =
         puts_new (border_behind AtBegin []) keys drill_checkpoint scope (entries_of c.made.fits.written) c.added (entries_of grown.fits_now.written) same
         listed.among (none_live c.store before c.begun c.made) grown.puts in
-        totals_are count c.added carried most c.tells.0.put
-        (counts_all source repo keys (accepted_in c.store) count c.records c.added none some most says puts c.carries.1)
+        let totals = totals_are count c.added carried most c.tells.0.put
+        (counts_all source repo keys (accepted_in c.store) count c.records c.added none some most says puts c.carries.1) in
+        let streams = streams_all source repo keys (accepted_in c.store) scope count c.records c.added none most says same listed.among puts c.carries.1 in
+        (totals.0, (totals.1, meta_is count c.added carried most c.tells.0.put streams))
 
-  pub has_copied : 1 ≤ count → HasCopied count carried now
-  has_copied some =
+  -- the names of its items' fields
+  target_names : 1 ≤ count → HasPlain source → (there : RepoState) → OpensFilesTo (files_now now) target_secret there
+      → there.manifest.item_keys ≡ item_names
+  target_names some plain there opens_to =
+      let empty : (accepted_in c.store).item_keys ≡ [] =
+      ap (λ (m : ManifestText). m.item_keys) (accepts_first c.store before c.begun c.made) in
+      let come = names_come repo.manifest (accepted_in c.store) (names_from 0 count) (record_ids keys c.records) (accepted_in c.store_now) (plain repo opens)
+      none empty (omega (arith, some, names_size 0 count)) c.accepts in
+      ap (λ (m : ManifestText). m.item_keys) (open_manifest source repo (names_from 0 count) carried before now c there opens_to) ∙ come
+
+  pub has_copied : 1 ≤ count → HasPlain source → HasCopied count carried now
+  has_copied some plain =
       let total = c.tells.0 in
       let new = all_new (accepted_in c.store) [] 0 count total.copied total.present none (below_none 0) (omega (arith, most)) total.names in
       record {
         source = source;
         source_is = is;
+        plain = plain;
         opened = all_open source repo (names_from 0 count) carried before now c;
+        names = target_names some plain;
         archives = λ apart. has_archives (source_says count source is repo opens most apart);
         chunks = λ apart target_apart. (put_total (source_says count source is repo opens most apart) some target_apart).0;
-        bytes = λ apart target_apart. (put_total (source_says count source is repo opens most apart) some target_apart).1;
+        bytes = λ apart target_apart. (put_total (source_says count source is repo opens most apart) some target_apart).1.0;
+        meta = λ apart target_apart. (put_total (source_says count source is repo opens most apart) some target_apart).1.1;
         lines = c.tells.1.1.0
             ∙ (ap (λ (l : List (List ℕ)). l ++ (c.tells.1.0 ++ total_line carried ∷ [])) c.made.untold
             ∙ ap (λ (l : List (List ℕ)). l ++ total_line carried ∷ [])
@@ -236,7 +254,11 @@ made_works store timestamp bytes secret a b n m is time begun did makes untold o
         (
           subst (λ (x : Told). AllDone s.history x.history) one fits.2.0,
           record {
-            uncommitted = (makes.2 begun).uncommitted;
+            free = record {
+              uncommitted = (makes.2 begun).uncommitted;
+              number = (makes.2 begun).free;
+              counted = (makes.2 begun).number;
+            };
             untold = silent ∙ untold_yet s.history begun;
             new = new.0;
             first = new.1 ∙ ap first_manifest time;

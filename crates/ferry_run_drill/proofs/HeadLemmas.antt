@@ -130,3 +130,43 @@ item_short file chunks =
       number_short (pos 33188),
       raw_short (102 ∷ (48 + file % 10) ∷ []),
     )
+
+-- ---- least lengths
+
+table_long : (ps : Pairs) → length (shortest_pairs ps) ≤ length (shortest (table ps))
+table_long ps = omega (arith, length-append (map_head (pairs_count ps)) (shortest_pairs ps))
+
+pair_long : (k : List ℕ) (t : Tree) (ps : Pairs) → length (shortest t) ≤ length (shortest_pairs (pair k t ps))
+pair_long k t ps =
+    omega (arith, length-append (shortest_raw k) (shortest t ++ shortest_pairs ps), length-append (shortest t) (shortest_pairs ps))
+
+array_long : (items : Items) → length (shortest_items items) ≤ length (shortest (array items))
+array_long items = omega (arith, array_is items)
+
+chunk_long : (chunk : ChunkRef) → length chunk.id ≡ 32 → 32 ≤ length (shortest (chunk_tree chunk))
+chunk_long chunk size =
+    let two = item (number (pos chunk.size)) (item (number (pos chunk.csize)) no_items) in
+    omega (
+      arith,
+      array_long (item (raw chunk.id) two),
+      items_is (raw chunk.id) two,
+      length-append (raw_head (length chunk.id)) chunk.id,
+      size,
+    )
+
+pub chunks_long : (f : List ℕ → ChunkRef) → ((piece : List ℕ) → length (f piece).id ≡ 32) → (pieces : List (List ℕ))
+    → 32 * length pieces ≤ length (shortest_items (chunk_trees (map f pieces)))
+unfolding chunk_trees
+chunks_long f each [] = omega arith
+chunks_long f each (p ∷ ps) =
+    omega (arith, items_is (chunk_tree (f p)) (chunk_trees (map f ps)), chunk_long (f p) (each p), chunks_long f each ps)
+
+pub item_long : (file : ℕ) (chunks : List ChunkRef)
+    → length (shortest_items (chunk_trees chunks)) ≤ length (item_text (record { fields = item_fields file; chunks = Some chunks }))
+unfolding item_text
+item_long file chunks =
+    let path : Tree = raw (102 ∷ (48 + file % 10) ∷ []) in
+    let last : Pairs = pair (codes "path") path no_pairs in
+    let two : Pairs = pair (codes "mode") (number (pos 33188)) last in
+    let trees = array (chunk_trees chunks) in
+    omega (arith, table_long (pair (codes "chunks") trees two), pair_long (codes "chunks") trees two, array_long (chunk_trees chunks))

@@ -2,10 +2,10 @@
 use Rattle.std.proofs.Common.{◌≡◌, ap}
 use Rattle.ferry_repo.specs.declared.fault.RepoFault.TheVariants as Repos
 use Rattle.ferry_repo.specs.declared.secret.Secret.{Secret}
-use Rattle.ferry_run_drill.proofs.UnmadeLemmas.{IsUnkeyed}
+use Rattle.ferry_store.specs.Key.{FitsGiven}
 use Rattle.ferry_run_drill.specs.Drill.{target_secret}
 
-pub no_key : (secret : Secret) → secret ≡ target_secret → IsUnkeyed secret
+pub no_key : (secret : Secret) → secret ≡ target_secret → FitsGiven secret
 no_key secret is (Repos.KeyFile fault) refused = refused.0 (ap (λ (s : Secret). s.key_file) is)
 no_key secret is (Repos.Key fault) refused = refused.0 (ap (λ (s : Secret). s.key_file) is)
 no_key secret is Repos.NoCommit refused = refused

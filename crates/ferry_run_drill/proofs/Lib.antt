@@ -24,3 +24,5 @@ pub mod KeyLemmas
 pub mod DoneLemmas
 pub mod CheckLemmas
 pub mod CompleteLemmas
+pub mod DropLemmas
+pub mod MetaLemmas

@@ -1,6 +1,6 @@
 -- No manifest of a drill is larger than the content of an object may be.
 use Rattle.std.proofs.Common.{◌≡◌, ◌≤◌, ◌+◌, ◌*◌, ◌⊎◌, inl, inr, ℕ, suc, Bool, true, false, List, [], ◌∷◌, codes, cond, filter, length, replicate}
-use Rattle.std.proofs.Common.{Option, Some, None, Ordering, Less, Equal, Greater, nat_cmp, refl, sym, ◌∙◌, ap, subst, arith, length-append}
+use Rattle.std.proofs.Common.{IsSome, Option, Some, None, Ordering, Less, Equal, Greater, nat_cmp, refl, sym, ◌∙◌, ap, subst, arith, length-append}
 use Rattle.std.proofs.lemmas.Cmp.{nat_list_cmp_total}
 use Rattle.std.specs.Cmp.Lexicographic.{slice_cmp}
 use Rattle.std.specs.List.{AllByRecursion}
@@ -25,6 +25,7 @@ use Rattle.ferry_piece.proofs.AmongLemmas.{all_front}
 use Rattle.ferry_repo.specs.Archives.{archive_named}
 use Rattle.ferry_store.specs.New.{first_manifest}
 use Rattle.ferry_write.proofs.StandLemmas.{all-append}
+use Rattle.ferry_run_drill.proofs.NameLemmas.{none_named}
 use Rattle.ferry_run_drill.proofs.LengthLemmas.{manifest_most, pair_most, put_most, raw_most, table_most}
 use Rattle.ferry_run_drill.specs.Drill.{drill_time}
 
@@ -124,12 +125,36 @@ with_most archives entry =
 abbrev AreFew : List (List ℕ) → Type 0
 AreFew names = (names ≡ []) ⊎ (names ≡ item_names)
 
-union_few : (names more : List (List ℕ)) → AreFew names → AreFew more → AreFew (union names more)
+union_named : (names more : List (List ℕ)) → AreFew names → more ≡ item_names → union names more ≡ item_names
 unfolding in_order
-union_few names more (inl a) (inl b) = inl (ap (λ (l : List (List ℕ)). union l more) a ∙ ap (λ (l : List (List ℕ)). union [] l) b)
-union_few names more (inl a) (inr b) = inr (ap (λ (l : List (List ℕ)). union l more) a ∙ ap (λ (l : List (List ℕ)). union [] l) b)
-union_few names more (inr a) (inl b) = inr (ap (λ (l : List (List ℕ)). union l more) a ∙ ap (λ (l : List (List ℕ)). union item_names l) b)
-union_few names more (inr a) (inr b) = inr (ap (λ (l : List (List ℕ)). union l more) a ∙ ap (λ (l : List (List ℕ)). union item_names l) b)
+union_named names more (inl a) b = ap (λ (l : List (List ℕ)). union l more) a ∙ ap (λ (l : List (List ℕ)). union [] l) b
+union_named names more (inr a) b = ap (λ (l : List (List ℕ)). union l more) a ∙ ap (λ (l : List (List ℕ)). union item_names l) b
+
+-- behind archives of a source that has them a manifest keeps those of the drill
+names_stay : (source manifest : ManifestText) (names ids : List (List ℕ)) (now : ManifestText) → IsPlain item_names source
+    → manifest.item_keys ≡ item_names → AreNextOf None source manifest names ids now → now.item_keys ≡ item_names
+names_stay source manifest [] ids now plain are behind = ap (λ (m : ManifestText). m.item_keys) behind.1 ∙ are
+names_stay source manifest (name ∷ names) ids now plain are behind =
+    names_stay source behind.1.1.1.0 names behind.1.0 now plain (by behind.1.1.1.1.0) behind.1.1.1.1.1
+  where
+    by : IsNextOf None source manifest name behind.0 behind.1.1.1.0 → behind.1.1.1.0.item_keys ≡ item_names
+    by (inl kept) = ap (λ (m : ManifestText). m.item_keys) kept.1.1 ∙ are
+    by (inr new) =
+        ap (λ (m : ManifestText). m.item_keys) new.1.1.1 ∙ union_named manifest.item_keys source.item_keys (inr are) plain.1
+
+-- and the first archive brings them
+pub names_come : (source manifest : ManifestText) (names ids : List (List ℕ)) (now : ManifestText) → IsPlain item_names source → manifest.archives ≡ []
+    → manifest.item_keys ≡ [] → 1 ≤ length names → AreNextOf None source manifest names ids now → now.item_keys ≡ item_names
+names_come source manifest [] ids now plain none empty some behind = absurd (let no : ⊥ = omega (arith, some) in no)
+names_come source manifest (name ∷ names) ids now plain none empty some behind =
+    names_stay source behind.1.1.1.0 names behind.1.0 now plain (by behind.1.1.1.1.0) behind.1.1.1.1.1
+  where
+    by : IsNextOf None source manifest name behind.0 behind.1.1.1.0 → behind.1.1.1.0.item_keys ≡ item_names
+    by (inl kept) =
+        let is : false ≡ true = subst IsSome (none_named manifest.archives name none) kept.0 in
+        absurd (let no : ⊥ = cc in no)
+    by (inr new) =
+        ap (λ (m : ManifestText). m.item_keys) new.1.1.1 ∙ union_named manifest.item_keys source.item_keys (inl empty) plain.1
 
 few_most : (names : List (List ℕ)) → AreFew names → length (shortest_items (raws names)) ≤ 50
 unfolding raws
@@ -178,18 +203,18 @@ same_time : (one other : Option (List ℕ)) → one ≡ Some drill_time → othe
 same_time one other p q =
     ap (λ (o : Option (List ℕ)). time_for None o other) p ∙ ap (λ (o : Option (List ℕ)). time_for None (Some drill_time) o) q
 
-small_next : (most : ℕ) (source manifest : ManifestText) (named : ArchiveRef) (id : List ℕ) → IsPlain source → IsShort named → length id ≡ 32
+small_next : (most : ℕ) (source manifest : ManifestText) (named : ArchiveRef) (id : List ℕ) → IsPlain item_names source → IsShort named → length id ≡ 32
     → IsSmall most manifest → IsSmall (suc most) (next_named None source manifest named id)
 small_next most source manifest named id plain short size small = record {
   timestamp = ap Some (same_time source.timestamp manifest.timestamp plain.0 small.timestamp);
   short = with_short manifest.archives (entry_for named id) small.short (short.0, (size, short.1.1));
   count = omega (arith, with_most manifest.archives (entry_for named id), small.count);
-  item_keys = union_few manifest.item_keys source.item_keys small.item_keys plain.1;
+  item_keys = inr (union_named manifest.item_keys source.item_keys small.item_keys plain.1);
   config = small.config;
   more = small.more;
 }
 
-module _ (source : ManifestText) (plain : IsPlain source) (short : AllByRecursion IsShort source.archives) where
+module _ (source : ManifestText) (plain : IsPlain item_names source) (short : AllByRecursion IsShort source.archives) where
   small_one : (most : ℕ) (manifest : ManifestText) (name : List ℕ) (ids : List (List ℕ)) (now : ManifestText) → AllByRecursion HasIdSize ids
       → IsNextOf None source manifest name ids now → IsSmall most manifest → IsSmall (suc most) now
   small_one most manifest name ids now sizes (inl kept) small =

@@ -86,7 +86,7 @@ below_next before first below later most low among = elim (among_either before (
 ]
 
 -- a manifest without archives has no name
-none_named : (archives : List ArchiveRef) (name : List ℕ) → archives ≡ [] → archive_named name archives ≡ None
+pub none_named : (archives : List ArchiveRef) (name : List ℕ) → archives ≡ [] → archive_named name archives ≡ None
 unfolding archive_named
 none_named archives name is = ap (archive_named name) is
 

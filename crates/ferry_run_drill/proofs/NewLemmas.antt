@@ -196,7 +196,7 @@ counts_then some more a b c first second sum = record {
 pub counts_as : (added other : List Addition) (count : ℕ) → added ≡ other → Counts count other → Counts count added
 counts_as added other count same counts = subst (Counts count) (sym same) counts
 
-and_false : (b : Bool) → b && false ≡ false
+pub and_false : (b : Bool) → b && false ≡ false
 and_false true = refl
 and_false false = refl
 
@@ -228,7 +228,7 @@ counted put other n same is =
 uncounted : (put : Bool) (other : Kind) (n : ℕ) → put ≡ false → (if put && same_kind Content other then n else 0) ≡ 0
 uncounted put other n is = ap (λ (b : Bool). if b && same_kind Content other then n else 0) is
 
-is_put : (before : List (List ℕ)) (one : Addition) → IsNew before one → (IsAmong before one.content → ⊥) → one.put ≡ true
+pub is_put : (before : List (List ℕ)) (one : Addition) → IsNew before one → (IsAmong before one.content → ⊥) → one.put ≡ true
 is_put before one (inl new) none = new.0
 is_put before one (inr old) none = absurd (none old.1)
 

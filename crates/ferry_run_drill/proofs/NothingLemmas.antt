@@ -22,5 +22,6 @@ drills_nothing count all = record {
   start = says_nothing all.target.told;
   first = here_each SettlesFirst all.target.told first_here;
   kept = here_each InitLeaves all.target.told leaves_here;
+  drops = tt;
   completes = inl refl;
 }

@@ -95,3 +95,9 @@ module _ (source : Files) (repo : RepoState) (names : List (List ℕ)) (carried 
         let written : live_in id (entries_of grown.fits_now.written) ≡ Some lies.0 =
         ap (live_in id) (entries_are c.store_now now grown.fits_now c.none_now) ∙ (live.blobs id lies.0).0 has in
         opens_to live.log id lies.0 is.chunk has (grown.opening id lies.0 is.chunk written)
+
+  -- and what opens has the manifest that was accepted
+  pub open_manifest : (there : RepoState) → OpensFilesTo (files_now now) target_secret there → there.manifest ≡ accepted_in c.store_now
+  unfolding all_open
+  open_manifest there opens_there =
+      ap (λ (r : RepoState). r.manifest) (sym (one_repo (files_now now) target_secret all_open.0 there all_open.1.0 opens_there)) ∙ sym c.settled_now

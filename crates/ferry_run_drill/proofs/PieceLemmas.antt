@@ -31,7 +31,7 @@ unfoldable pub items_from : ℕ → ℕ → ℕ → List WholeItem
 items_from archive file zero = []
 items_from archive file (suc count) = drill_item archive file ∷ items_from archive (suc file) count
 
-items_are : (archive : ℕ) → drill_items archive ≡ items_from archive 0 8
+pub items_are : (archive : ℕ) → drill_items archive ≡ items_from archive 0 8
 unfolding items_front items_from
 items_are archive = refl
 
@@ -45,14 +45,14 @@ unfolding blocks_in
 later_blocks = refl
 
 -- the text of an item in the target
-abbrev text_of : Keys → ℕ → ℕ → List ℕ
+abbrev pub text_of : Keys → ℕ → ℕ → List ℕ
 text_of keys archive file = item_text (copied_item keys 512 (drill_item archive file))
 
 -- the stream of so many items there, from a file on
-abbrev stream_from : Keys → ℕ → ℕ → ℕ → List ℕ
+abbrev pub stream_from : Keys → ℕ → ℕ → ℕ → List ℕ
 stream_from keys archive file count = copied_stream keys 512 (items_from archive file count)
 
-text_short : (keys : Keys) (archive file : ℕ) → file < 8 → length (text_of keys archive file) ≤ 4000
+pub text_short : (keys : Keys) (archive file : ℕ) → file < 8 → length (text_of keys archive file) ≤ 4000
 text_short keys archive file low =
     let pieces = cut 512 (file_content archive file) in
     let size : length pieces ≡ 8 * (file + 1) = ap length (file_cut archive file) ∙ blocks_size archive file 0 (8 * (file + 1)) in
@@ -64,7 +64,7 @@ text_short keys archive file low =
       low,
     )
 
-stream_short : (keys : Keys) (archive file count : ℕ) → file + count ≤ 8 → length (stream_from keys archive file count) ≤ 4000 * count
+pub stream_short : (keys : Keys) (archive file count : ℕ) → file + count ≤ 8 → length (stream_from keys archive file count) ≤ 4000 * count
 unfolding items_from
 stream_short keys archive file zero most = omega arith
 stream_short keys archive file (suc count) most =
@@ -75,7 +75,7 @@ stream_short keys archive file (suc count) most =
       stream_short keys archive (suc file) count (omega (arith, most)),
     )
 
-stream_high : (keys : Keys) (archive count : ℕ) → 128 ≤ get_or (stream_from keys archive 0 (suc count)) 0 0
+pub stream_high : (keys : Keys) (archive count : ℕ) → 128 ≤ get_or (stream_from keys archive 0 (suc count)) 0 0
 unfolding items_from
 stream_high keys archive count =
     high_front (text_of keys archive 0) (stream_from keys archive 1 count) (item_high (copied_item keys 512 (drill_item archive 0)))
@@ -95,15 +95,15 @@ fills_none piece text (one ∷ rest) piece_now low fills =
     absurd (let no : ⊥ = omega (arith, long, first, second, both, all, low) in no)
 
 -- What is listed of a file and of those behind it.
-record ListsFile (keys : Keys) (archive file : ℕ) (piece : List ℕ) (wholes : List WholeItem) (listed : List Addition) (piece_now : List ℕ) : Type 0 where
-  own : List Addition
-  are : AreOf Content own
-  own_is : contents_in own ≡ blocks_from archive file 0 (block_count file)
-  rest : List Addition
-  listed_is : listed ≡ own ++ rest
-  later : ListsItems keys 512 (piece ++ text_of keys archive file) wholes rest piece_now
+pub record ListsFile (keys : Keys) (archive file : ℕ) (piece : List ℕ) (wholes : List WholeItem) (listed : List Addition) (piece_now : List ℕ) : Type 0 where
+  pub own : List Addition
+  pub are : AreOf Content own
+  pub own_is : contents_in own ≡ blocks_from archive file 0 (block_count file)
+  pub rest : List Addition
+  pub listed_is : listed ≡ own ++ rest
+  pub later : ListsItems keys 512 (piece ++ text_of keys archive file) wholes rest piece_now
 
-lists_file : (keys : Keys) (archive file : ℕ) (piece : List ℕ) (wholes : List WholeItem) (listed : List Addition) (piece_now : List ℕ)
+pub lists_file : (keys : Keys) (archive file : ℕ) (piece : List ℕ) (wholes : List WholeItem) (listed : List Addition) (piece_now : List ℕ)
     → length piece + length (text_of keys archive file) < stream_block → ListsItems keys 512 piece (drill_item archive file ∷ wholes) listed piece_now
     → ListsFile keys archive file piece wholes listed piece_now
 lists_file keys archive file piece wholes listed piece_now low lists =
@@ -211,7 +211,7 @@ walks_archive keys archive count before listed piece less first puts lists =
       subst HasFirst contents (has_wider (before ++ contents_in one.own) (contents_in one.rest) begun.1),
     )
 
-some_bytes : (l : List ℕ) → 128 ≤ get_or l 0 0 → 1 ≤ length l
+pub some_bytes : (l : List ℕ) → 128 ≤ get_or l 0 0 → 1 ≤ length l
 some_bytes [] high = absurd (let no : ⊥ = omega (arith, high) in no)
 some_bytes (x ∷ xs) high = omega arith
 

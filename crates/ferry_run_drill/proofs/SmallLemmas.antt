@@ -8,7 +8,7 @@ use Rattle.ferry_base.specs.Limits.{content_limit}
 use Rattle.ferry_blob.proofs.CallerLemmas.{length-content_id}
 use Rattle.ferry_blob.specs.Blob.{content_id}
 use Rattle.ferry_carry.specs.Carrying.{SaysIn}
-use Rattle.ferry_carry.specs.Copied.{copied_item, copied_stream, stream_block, stream_pieces}
+use Rattle.ferry_carry.specs.Copied.{IsCopyOf, copied_item, copied_stream, stream_block, stream_pieces}
 use Rattle.ferry_carry.specs.Naming.{copied_archive, fixed_params}
 use Rattle.ferry_carry.specs.Refusals.{HasLargeRecord, HasLongItem, IsTooLong, total_size}
 use Rattle.ferry_disk.specs.Files.{Files}
@@ -162,6 +162,23 @@ record_small keys archive salt text size fields =
     let same = ap (λ (t : Tree). length (shortest_pairs (pairs_of_table t))) fields in
     let all = record_most keys salt copied (fixed_params target_block) size refl (content_ids keys pieces) in
     omega (arith, count, few, as_many, same, all, fields_small archive, params_small)
+
+-- the record of an archive in the target is short
+pub record_short : (keys : Keys) (archive : ℕ) (salt text : List ℕ) → IsCopyOf keys target_block (drill_items archive) (archive_fields archive) salt text
+    → length text ≤ 2000
+record_short keys archive salt text copy =
+    let pieces = stream_pieces keys target_block (drill_items archive) in
+    let stream = copied_stream keys target_block (drill_items archive) in
+    let short : length stream ≤ 32000 = omega (arith, stream_small keys archive 8 (omega arith)) in
+    let count : length pieces ≡ (length stream + 131071) / 131072 = cut_count stream_block stream in
+    let few : (length stream + 131071) / 131072 ≤ 1 = omega (arith, short) in
+    let as_many = length-map pieces (content_id keys) in
+    let items = ap (λ (ids : List (List ℕ)). length ids) copy.items in
+    let same = ap (λ (t : Tree). length (shortest_pairs (pairs_of_table t))) copy.same in
+    let ids = subst (AllByRecursion (λ (id : List ℕ). length id ≡ 32)) (sym copy.items) (content_ids keys pieces) in
+    let all = record_most keys salt copy.copied (fixed_params target_block) copy.salt_size copy.params ids in
+    let text_is = ap (λ (l : List ℕ). length l) copy.text_is in
+    omega (arith, count, few, as_many, items, same, all, fields_small archive, params_small, text_is)
 
 -- no record of the drill is too large
 pub none_large : (source : Files) (repo : RepoState) (keys : Keys) (archive : ℕ) → SaysIn source repo (archive_name archive) (drill_archive archive)

@@ -39,17 +39,17 @@ one_counts source repo keys archive count before one added says less first lists
 -- ---- all of them
 
 -- What is added for the name of an archive that comes, and for those behind it.
-record ListsMore (source : Files) (repo : RepoState) (keys : Keys) (accepted : ManifestText) (before : List (List ℕ)) (first count : ℕ) (added : List Addition)
-    : Type 0 where
-  tagged : TaggedRecord
-  one : List Addition
-  rest : List Addition
-  added_is : added ≡ one ++ rest
-  lists : ListsArchive source (drill_origin source repo) keys (archive_name first) tagged one
-  others : List TaggedRecord
-  later : ListsNames (drill_origin source repo) keys accepted (before ++ archive_name first ∷ []) (names_from (suc first) count) others rest
+pub record ListsMore (source : Files) (repo : RepoState) (keys : Keys) (accepted : ManifestText) (before : List (List ℕ)) (first count : ℕ)
+    (added : List Addition) : Type 0 where
+  pub tagged : TaggedRecord
+  pub one : List Addition
+  pub rest : List Addition
+  pub added_is : added ≡ one ++ rest
+  pub lists : ListsArchive source (drill_origin source repo) keys (archive_name first) tagged one
+  pub others : List TaggedRecord
+  pub later : ListsNames (drill_origin source repo) keys accepted (before ++ archive_name first ∷ []) (names_from (suc first) count) others rest
 
-lists_more : (source : Files) (repo : RepoState) (keys : Keys) (accepted : ManifestText) (before : List (List ℕ)) (first count : ℕ)
+pub lists_more : (source : Files) (repo : RepoState) (keys : Keys) (accepted : ManifestText) (before : List (List ℕ)) (first count : ℕ)
     (records : List TaggedRecord) (added : List Addition) → accepted.archives ≡ [] → AreBelow before first → first < 64
     → ListsNames (drill_origin source repo) keys accepted before (names_from first (suc count)) records added
     → ListsMore source repo keys accepted before first count added

@@ -15,21 +15,17 @@ use Rattle.ferry_repo.specs.declared.fault.RepoFault.TheVariants as Repos
 use Rattle.ferry_repo.specs.declared.secret.Secret.{Secret}
 use Rattle.ferry_status.specs.Status.{carry_status, output_failed}
 use Rattle.ferry_status.specs.Opened.{IsDoneUnless}
-use Rattle.ferry_store.specs.Key.{RefusesGiven}
+use Rattle.ferry_store.specs.Key.{FitsGiven}
 use Rattle.ferry_store.specs.Store.{RefusesFiles, RefusesInit}
 use Rattle.ferry_store.specs.declared.fault.StoreRefusal.{StoreRefusal}
 use Rattle.ferry_store.specs.declared.fault.StoreRefusal.TheVariants as Stores
 use Rattle.ferry_write.specs.declared.fault.WriteFault.TheVariants as Writes
 use Rattle.ferry_run_drill.proofs.SmallLemmas.{first_small}
-use Rattle.ferry_run_drill.specs.Complete.{EndsCopy, EndsFrom, IsFree, MeetsLimit}
-use Rattle.ferry_run_drill.specs.Drill.{drill_time}
-
--- No key is handed in.
-abbrev pub IsUnkeyed : Secret → Type 0
-IsUnkeyed secret = (fault : RepoFault) → RefusesGiven secret (Stores.Repo fault) → ⊥
+use Rattle.ferry_run_drill.specs.Complete.{EndsCopy, EndsFrom, MeetsLimit}
+use Rattle.ferry_run_drill.specs.Drill.{IsFree, drill_time}
 
 -- a repository that isn't made
-pub init_ends : (secret : Secret) (start image : Files) → IsUnkeyed secret → IsFree start → (refusal : StoreRefusal)
+pub init_ends : (secret : Secret) (start image : Files) → FitsGiven secret → IsFree start → (refusal : StoreRefusal)
     → RefusesFiles secret drill_time start refusal
     → IsDoneUnless (MeetsLimit start image) (λ other. output_failed other ≡ true) (carry_status (target_fault refusal))
 init_ends secret start image unkeyed free (Stores.Repo Repos.NoCommit) refused = absurd (unkeyed Repos.NoCommit refused.1)
@@ -50,18 +46,18 @@ init_ends secret start image unkeyed free (Stores.Repo Repos.Memory) refused = t
 init_ends secret start image unkeyed free (Stores.Write Writes.Device) refused = tt
 init_ends secret start image unkeyed free (Stores.Write Writes.Memory) refused = tt
 init_ends secret start image unkeyed free (Stores.Write Writes.Numbers) refused = absurd refused
-init_ends secret start image unkeyed free (Stores.Nonce Nonces.Missing) refused = absurd refused.1
-init_ends secret start image unkeyed free (Stores.Nonce Nonces.Text) refused = absurd (refused.1 free.number free.counted)
-init_ends secret start image unkeyed free (Stores.Nonce Nonces.Exhausted) refused = inl refused.1
+init_ends secret start image unkeyed free (Stores.Nonce Nonces.Missing) refused = absurd refused.1.1
+init_ends secret start image unkeyed free (Stores.Nonce Nonces.Text) refused = absurd (refused.1.1 free.number free.counted)
+init_ends secret start image unkeyed free (Stores.Nonce Nonces.Exhausted) refused = inl refused.1.1
 init_ends secret start image unkeyed free (Stores.Nonce Nonces.Device) refused = tt
 init_ends secret start image unkeyed free (Stores.Nonce Nonces.Memory) refused = tt
 init_ends secret start image unkeyed free Stores.Committed refused = absurd (refused free.uncommitted)
-init_ends secret start image unkeyed free Stores.TooLarge refused = absurd (first_small refused.1)
+init_ends secret start image unkeyed free Stores.TooLarge refused = absurd (first_small refused.1.1)
 init_ends secret start image unkeyed free Stores.Entropy refused = tt
 init_ends secret start image unkeyed free Stores.Memory refused = tt
 
 -- the same, where the target tells its files
-pub unmade_ends : (secret : Secret) (timestamp : List ℕ) (a b : Option Told) → IsUnkeyed secret → timestamp ≡ drill_time
+pub unmade_ends : (secret : Secret) (timestamp : List ℕ) (a b : Option Told) → FitsGiven secret → timestamp ≡ drill_time
     → (refusal : StoreRefusal) → IfSome a (λ t. RefusesInit secret timestamp t.history refusal) → EndsCopy a b (target_fault refusal)
 unmade_ends secret timestamp None b unkeyed time refusal refused = tt
 unmade_ends secret timestamp (Some s) None unkeyed time refusal refused = tt

@@ -9,8 +9,7 @@ use Rattle.ferry_disk.specs.Act.{History}
 use Rattle.ferry_disk.specs.Device.{HasCause, Heard, RoseWhere, Told, heard, heard_of, told_files}
 use Rattle.ferry_disk.specs.Files.{Files}
 use Rattle.ferry_disk.specs.Moments.{Between}
-use Rattle.ferry_gen.specs.Source.{IsSource, source_secret}
-use Rattle.ferry_log.specs.Log.{IsUncommitted}
+use Rattle.ferry_gen.specs.Source.{HasPlain, IsSource, source_secret}
 use Rattle.ferry_piece.specs.Fault.{shelf_failed, source_fault, target_fault}
 use Rattle.ferry_piece.specs.Work.{Works}
 use Rattle.ferry_piece.specs.declared.fault.CarryFault.{CarryFault}
@@ -23,14 +22,15 @@ use Rattle.ferry_repo.specs.declared.secret.Secret.{Secret}
 use Rattle.ferry_run_transfer.specs.Transfer.{chosen_of}
 use Rattle.ferry_status.specs.Status.{carry_status}
 use Rattle.ferry_store.proofs.StepLemmas.{known_end}
-use Rattle.ferry_store.specs.Store.{InitEach, InitLeaves, RefusesInit, StoreFits}
+use Rattle.ferry_store.specs.Store.{InitEach, InitLeaves, RefusesFiles, RefusesInit, StoreFits}
 use Rattle.ferry_store.specs.declared.fault.StoreRefusal.{StoreRefusal}
 use Rattle.ferry_store.specs.declared.store.Store.{Store}
 use Rattle.ferry_write.specs.Script.{AllDone}
 use Rattle.ferry_write.specs.Session.{SettlesFirst}
 use Rattle.ferry_run_drill.proofs.CopyLemmas.{chosen_names, has_copied}
 use Rattle.ferry_run_drill.proofs.StartLemmas.{init_tells, names_tell}
-use Rattle.ferry_run_drill.specs.Drill.{HasCopied, TellsStart}
+use Rattle.ferry_store.specs.Key.{FitsGiven}
+use Rattle.ferry_run_drill.specs.Drill.{HasCopied, IsFree, TellsStart, drill_time}
 use Rattle.ferry_run_drill.specs.Steps.{CopiesNames, IsMadeNew, drill_origin}
 use Rattle.ferry_carry.specs.States.{target_state, drawn_from}
 
@@ -94,10 +94,12 @@ history_kept (Some told) (Some now) P same holds =
 -- ---- the files that the target had
 
 -- a repository that isn't made
-pub unmade_tells : (secret : Secret) (timestamp : List ℕ) (a : Option Told) (refusal : StoreRefusal) → IfSome a (λ t. t.history.acts ≡ [])
-    → IfSome a (λ t. RefusesInit secret timestamp t.history refusal) → IfSome a (λ t. TellsStart (told_files t) (carry_status (target_fault refusal)))
-unmade_tells secret timestamp None refusal begun refused = tt
-unmade_tells secret timestamp (Some t) refusal begun refused = init_tells secret timestamp (told_files t) refusal (refused begun)
+pub unmade_tells : (secret : Secret) (timestamp : List ℕ) (a : Option Told) → FitsGiven secret → timestamp ≡ drill_time → (refusal : StoreRefusal)
+    → IfSome a (λ t. t.history.acts ≡ []) → IfSome a (λ t. RefusesInit secret timestamp t.history refusal)
+    → IfSome a (λ t. TellsStart (told_files t) (carry_status (target_fault refusal)))
+unmade_tells secret timestamp None unkeyed time refusal begun refused = tt
+unmade_tells secret timestamp (Some t) unkeyed time refusal begun refused =
+    init_tells secret (told_files t) unkeyed refusal (subst (λ (l : List ℕ). RefusesFiles secret l (told_files t) refusal) time (refused begun))
 
 -- what was told before is told behind it
 not_untold : (t : Told) (b : Option Told) (E : History → History → Type 0) → b ≡ Some t → Between b None E → ⊥
@@ -115,7 +117,7 @@ uncopied_tells from names store store_now None b d n m E fault made each refused
 uncopied_tells from names store store_now (Some s) b None n m E fault made each refused =
     absurd (not_untold made.end.0 b E made.end.1 each)
 uncopied_tells from names store store_now (Some s) b (Some u) n m E fault made each refused =
-    names_tell from b u store store_now names (told_files s) fault made.end.2.1.uncommitted refused
+    names_tell from b u store store_now names (told_files s) fault made.end.2.1.free refused
 
 -- the same of what the copy says
 pub copied_tells : (source : Files) (repo : RepoState) (names : List (List ℕ)) (store store_now : Store) (a b d : Option Told) (n m k : ℕ)
@@ -143,20 +145,20 @@ made_fits store a b n m made =
 
 -- all archives of the drill's source were copied
 pub copied_drill : (count : ℕ) (source : Files) (is : IsSource count source) (repo : RepoState) (opens : OpensFilesTo source source_secret repo)
-    (most : count ≤ 64) (carried : Carried) (a b : Option Told) (n m : ℕ) → 1 ≤ count
+    (most : count ≤ 64) (carried : Carried) (a b : Option Told) (n m : ℕ) → 1 ≤ count → HasPlain source
     → Works SettlesFirst (λ carried. CopiesNames source repo (chosen_of [] repo.manifest) carried) a b n m (Ok carried)
     → IfSome b (λ t. HasCopied count carried t.history)
-copied_drill count source is repo opens most carried a b n m least works =
+copied_drill count source is repo opens most carried a b n m least plain works =
     known_end (λ h. HasCopied count carried h) (λ h g. AllDone h g × CopiesNames source repo (chosen_of [] repo.manifest) carried h g) a b works.ends
     (λ h g e. has_copied count source is repo opens most carried h g
-    (subst (λ (names : List (List ℕ)). CopiesNames source repo names carried h g) (chosen_names count source is repo opens most) e.1) least) works.end
+    (subst (λ (names : List (List ℕ)). CopiesNames source repo names carried h g) (chosen_names count source is repo opens most) e.1) least plain) works.end
 
 -- nothing was committed in a target into which they were
 pub copied_start : (source : Files) (repo : RepoState) (names : List (List ℕ)) (carried : Carried) (a b : Option Told) (n m : ℕ)
     (P : Files → Type 0) → Works SettlesFirst (λ carried. CopiesNames source repo names carried) a b n m (Ok carried)
-    → ((files : Files) → IsUncommitted files → P files) → IfSome a (λ t. P (told_files t))
+    → ((files : Files) → IsFree files → P files) → IfSome a (λ t. P (told_files t))
 copied_start source repo names carried None b n m P works says = tt
-copied_start source repo names carried (Some s) b n m P works says = says (told_files s) works.end.2.1.made.uncommitted
+copied_start source repo names carried (Some s) b n m P works says = says (told_files s) works.end.2.1.made.free
 
 -- what holds stays so where nothing is done behind
 pub each_read : (P : History → History → Type 0) (a b c : Option Told) → Between a b P → Between b c (λ before now. now ≡ before) → Between a c P
@@ -174,4 +176,4 @@ init_leaves secret a b each = between_map a b (InitEach secret) InitLeaves (λ h
 pub made_leaves : (store : Store) (a b c : Option Told) (n m : ℕ) (P : History → History → Type 0) → Works SettlesFirst IsMadeNew a b n m (Ok store)
     → Between b c P → Between a c InitLeaves
 made_leaves store a b c n m P made each =
-    between_then a b c (λ h g. AllDone h g × IsMadeNew store h g) P InitLeaves (λ h g i e p committed. absurd (committed e.1.uncommitted)) made.end each
+    between_then a b c (λ h g. AllDone h g × IsMadeNew store h g) P InitLeaves (λ h g i e p committed. absurd (committed e.1.free.uncommitted)) made.end each

@@ -2,11 +2,9 @@
 use Rattle.std.specs.Prelude.{◌≡◌, ◌≤◌, ◌⊎◌, ℕ, [], Option, IfSome, true}
 use Rattle.ferry_carry.specs.declared.options.Carried.{Carried}
 use Rattle.ferry_disk.specs.Device.{Told, told_files}
-use Rattle.ferry_disk.specs.Files.{Files, file_at}
-use Rattle.ferry_disk.specs.declared.name.Name.TheVariants.{Nonce as NonceFile}
+use Rattle.ferry_disk.specs.Files.{Files}
 use Rattle.ferry_gen.specs.Archives.{HasArchives}
 use Rattle.ferry_gen.specs.Source.{HasPlain, IsSource}
-use Rattle.ferry_log.specs.Log.{IsUncommitted}
 use Rattle.ferry_piece.specs.declared.fault.CarryFault.{CarryFault}
 use Rattle.ferry_status.specs.Status.{carry_status, output_failed}
 use Rattle.ferry_status.specs.declared.status.Limit.{Limit as LimitKind}
@@ -14,18 +12,11 @@ use Rattle.ferry_status.specs.declared.status.Limit.TheVariants as Limits
 use Rattle.ferry_status.specs.declared.status.Status.{Status}
 use Rattle.ferry_status.specs.declared.status.Status.TheVariants as Statuses
 use Rattle.ferry_status.specs.Opened.{IsDoneUnless}
-use Rattle.ferry_stops.specs.Counters.{IsNonce}
 use Rattle.ferry_store.specs.Causes.{HasFewBlocks}
 use Rattle.ferry_store.specs.Init.{HasNoBlocks}
-use Rattle.ferry_run_drill.specs.Drill.{HasCopied, NoneCollide, drill_time, target_block, target_secret}
+use Rattle.ferry_run_drill.specs.Drill.{HasCopied, IsFree, NoneCollide, drill_time, target_block, target_secret}
 
 -- ---- what is asked
-
--- Nothing is committed in these files, and the file `nonce` is absent or has a number.
-pub record IsFree (files : Files) : Type 0 where
-  pub uncommitted : IsUncommitted files
-  pub number : ℕ
-  pub counted : IsNonce (file_at files NonceFile) number
 
 -- Where files have the target's archives, none of their contents collide.
 abbrev pub AreApartIn : ℕ → Files → Type 0

@@ -1,5 +1,5 @@
 -- What the command leaves that makes a source of its own, copies it into the target, and checks it.
-use Rattle.std.specs.Prelude.{◌≡◌, ◌⊎◌, ◌+◌, ◌*◌, ◌++◌, ℕ, zero, suc, List, [], ◌∷◌, codes, decimal, true, Option, IfSome}
+use Rattle.std.specs.Prelude.{◌≡◌, ◌⊎◌, ◌+◌, ◌*◌, ◌++◌, ℕ, zero, suc, List, [], ◌∷◌, codes, decimal, length, true, Option, IfSome, option_map}
 use Rattle.ferry_carry.specs.Lines.{name_line, told_of, total_line}
 use Rattle.ferry_carry.specs.declared.options.Carried.{Carried}
 use Rattle.ferry_check.specs.Verify.{AllOpen, FilesVerify, FirstBad}
@@ -9,9 +9,10 @@ use Rattle.ferry_disk.specs.Files.{Files, file_at}
 use Rattle.ferry_disk.specs.declared.name.Name.TheVariants.{Nonce as NonceFile}
 use Rattle.ferry_gen.specs.Archives.{HasArchives, contents_from}
 use Rattle.ferry_gen.specs.Content.{archive_name}
-use Rattle.ferry_gen.specs.Source.{IsSource}
+use Rattle.ferry_gen.specs.Source.{HasPlain, IsSource, item_names}
 use Rattle.ferry_log.specs.Log.{IsUncommitted}
 use Rattle.ferry_nonce.specs.Counter.{HasNoNumber}
+use Rattle.ferry_nonce.specs.declared.fault.NonceFault.TheVariants as Nonces
 use Rattle.ferry_piece.specs.Gather.{NoCollision}
 use Rattle.ferry_repo.specs.Opening.{OpensFilesTo, RepoState}
 use Rattle.ferry_repo.specs.declared.fault.RepoFault.{RepoFault}
@@ -22,7 +23,9 @@ use Rattle.ferry_status.specs.declared.status.Refusal.TheVariants.{Committed, No
 use Rattle.ferry_status.specs.declared.status.Status.{Status}
 use Rattle.ferry_status.specs.declared.status.Status.TheVariants as Statuses
 use Rattle.ferry_status.specs.Status.{bad_line}
+use Rattle.ferry_stops.specs.Counters.{IsNonce}
 use Rattle.ferry_stops.specs.Tells.{lines_of}
+use Rattle.ferry_store.specs.New.{IsMade}
 
 -- ---- the target
 
@@ -51,16 +54,20 @@ NoneCollide {block = block} has = NoCollision has.repo.keys (contents_from has.r
 abbrev pub OpensAll : Files → Type 0
 OpensAll files = (repo : RepoState) × (OpensFilesTo files target_secret repo × AllOpen files repo)
 
--- The target opens, and each live chunk there. Where no contents of a source that was made collide, it has its archives and no others. Where none of the
--- target's contents collide either, the pieces of contents that were put are 280 for each archive, and the 8 of the file that is the same in all of them,
--- of 512 bytes each. The lines are those of a transfer: one for each archive, and that of the whole.
+-- The target opens, and each live chunk there, and its manifest has the names of the items' fields, as the source's has. Where no contents of the source that
+-- was made collide, it has its archives and no others. Where none of the target's contents collide either, the pieces of contents that were put are 280 for
+-- each archive, and the 8 of the file that is the same in all of them, of 512 bytes each, and those of streams are one for each archive. The lines are those
+-- of a transfer: one for each archive, and that of the whole.
 pub record HasCopied (count : ℕ) (carried : Carried) (now : History) : Type 0 where
   pub source : Files
   pub source_is : IsSource count source
+  pub plain : HasPlain source
   pub opened : OpensAll (files_now now)
+  pub names : (repo : RepoState) → OpensFilesTo (files_now now) target_secret repo → repo.manifest.item_keys ≡ item_names
   pub archives : NoneCollide source_is → HasArchives target_secret target_block count (files_now now)
   pub chunks : (apart : NoneCollide source_is) → NoneCollide (archives apart) → carried.chunks ≡ 280 * count + 8
   pub bytes : (apart : NoneCollide source_is) → NoneCollide (archives apart) → carried.bytes ≡ 512 * (280 * count + 8)
+  pub meta : (apart : NoneCollide source_is) → NoneCollide (archives apart) → carried.meta ≡ count
   pub lines : lines_of now.acts ≡ lines_from zero count ++ total_line carried ∷ []
   pub transferred : carried.transferred ≡ count
   pub present : carried.present ≡ 0
@@ -68,6 +75,31 @@ pub record HasCopied (count : ℕ) (carried : Carried) (now : History) : Type 0 
 -- The target doesn't verify: this is its first fault.
 abbrev pub HasBad : Files → RepoFault → Type 0
 HasBad files fault = (repo : RepoState) × (OpensFilesTo files target_secret repo × FirstBad files repo fault)
+
+-- ---- the random bytes
+
+-- Files have the settings of a new repository that is made of these bytes, with an id and a key of them.
+pub record HasSettingsOf (bytes : List ℕ) (files : Files) : Type 0 where
+  pub first : Files
+  pub free : ℕ
+  pub made : IsMade target_secret 1 drill_time free bytes first
+  pub config : files.config ≡ first.config
+
+-- A hundred bytes were drawn and dropped, and the target's settings are of those that were drawn next.
+pub record DropsFirst (before now : Option Told) (drawn drawn_now : Option (List ℕ)) : Type 0 where
+  pub dropped : List ℕ
+  pub size : length dropped ≡ 100
+  pub bytes : List ℕ
+  pub rest : List ℕ
+  pub drew : drawn_now ≡ option_map (λ all. all ++ (dropped ++ (bytes ++ rest))) drawn
+  pub settings : IfSome before (λ _. IfSome now (λ t. HasSettingsOf bytes (told_files t)))
+
+-- So it was where all was copied, whatever the check found, and whether or not the output failed.
+abbrev pub DropsWhere : Option Told → Option Told → Option (List ℕ) → Option (List ℕ) → Status → Type 0
+DropsWhere before now drawn drawn_now Statuses.Done = DropsFirst before now drawn drawn_now
+DropsWhere before now drawn drawn_now Statuses.No = DropsFirst before now drawn drawn_now
+DropsWhere before now drawn drawn_now Statuses.OutputDevice = DropsFirst before now drawn drawn_now
+DropsWhere before now drawn drawn_now status = Unit {0}
 
 -- ---- lines
 
@@ -98,12 +130,20 @@ PrintsDrill count now before status after = after ≡ before
 
 -- ---- the files that the target had
 
--- What a status says of the files that the target had: that a segment was committed, where it is refused for that; and else, but for want of memory, its
--- device, and the source of random bytes, that none was, and where its file `nonce` is refused, that this is there and has no number.
+-- Nothing is committed in these files, and the file `nonce` is absent or has a number.
+pub record IsFree (files : Files) : Type 0 where
+  pub uncommitted : IsUncommitted files
+  pub number : ℕ
+  pub counted : IsNonce (file_at files NonceFile) number
+
+-- What a status says of the files that the target had: that a segment was committed, where it is refused for that; where the text of its file `nonce` is
+-- refused, that none was, and that this file is there and has no number; and else, but for want of memory, its device, and the source of random bytes, that
+-- none was, and that the file is absent or has a number.
 abbrev pub TellsStart : Files → Status → Type 0
 TellsStart start (Statuses.TargetRefused Committed) = IsUncommitted start → ⊥
-TellsStart start (Statuses.TargetRefused (Nonce fault)) = IsUncommitted start × HasNoNumber (file_at start NonceFile)
+TellsStart start (Statuses.TargetRefused (Nonce Nonces.Text)) = IsUncommitted start × HasNoNumber (file_at start NonceFile)
+TellsStart start (Statuses.TargetRefused (Nonce fault)) = ⊥
 TellsStart start Statuses.Memory = Unit {0}
 TellsStart start Statuses.TargetDevice = Unit {0}
 TellsStart start Statuses.EntropyDevice = Unit {0}
-TellsStart start status = IsUncommitted start
+TellsStart start status = IsFree start

@@ -8,7 +8,6 @@ use Rattle.ferry_carry.specs.declared.options.Carried.{Carried}
 use Rattle.ferry_disk.specs.Act.{History, files_now}
 use Rattle.ferry_disk.specs.Device.{Rose, WritesSome}
 use Rattle.ferry_disk.specs.Files.{Files}
-use Rattle.ferry_log.specs.Log.{IsUncommitted}
 use Rattle.ferry_piece.specs.Puts.{Addition}
 use Rattle.ferry_repo.specs.Opening.{OpensFilesTo, RepoState, repo_view}
 use Rattle.ferry_repo.specs.declared.fault.RepoFault.{RepoFault}
@@ -24,7 +23,7 @@ use Rattle.ferry_store.specs.Store.{StoreFits}
 use Rattle.ferry_store.specs.declared.fault.StoreRefusal.{StoreRefusal}
 use Rattle.ferry_store.specs.declared.fault.StoreRefusal.TheVariants as Stores
 use Rattle.ferry_store.specs.declared.store.Store.{Store}
-use Rattle.ferry_run_drill.specs.Drill.{done_line, drill_time, target_block, target_secret}
+use Rattle.ferry_run_drill.specs.Drill.{IsFree, done_line, drill_time, target_block, target_secret}
 use Rattle.ferry_write.specs.Room.{behind}
 
 -- how many pieces are put before what is done is committed
@@ -35,10 +34,10 @@ drill_checkpoint = 1024
 abbrev pub drill_origin : Files → RepoState → Origin
 drill_origin source repo = record { files = Some source; repo = repo; block = target_block; most = drill_checkpoint; time = None }
 
--- A store was made in a target where no segment was committed, and which had told no line: it fits, has no archive, nothing is pending, and it has two
+-- A store was made in a target that was free, and which had told no line: it fits, has no archive, nothing is pending, and it has two
 -- segments at most.
 pub record IsMadeNew (store : Store) (before begun : History) : Type 0 where
-  pub uncommitted : IsUncommitted (files_now before)
+  pub free : IsFree (files_now before)
   pub untold : lines_of begun.acts ≡ []
   pub new : OpensNew target_secret (files_now begun)
   pub first : new.repo.manifest ≡ first_manifest drill_time

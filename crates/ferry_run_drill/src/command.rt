@@ -6,9 +6,8 @@ ghost use Rattle.ferry_disk.specs.Device.{HasCause, KeepsTold, RoseWhere, told_f
 ghost use Rattle.ferry_disk.specs.Faults.{FailedWhere};
 ghost use Rattle.ferry_disk.specs.Files.{Files};
 ghost use Rattle.ferry_disk.specs.Moments.{Between};
-ghost use Rattle.ferry_log.specs.Log.{IsUncommitted};
 ghost use Rattle.ferry_run_drill.specs.Complete.{EndsChecked, EndsDone, IsFinished};
-ghost use Rattle.ferry_run_drill.specs.Drill.{HasBad, HasCopied, OpensAll, PrintsDrill, TellsStart, target_secret};
+ghost use Rattle.ferry_run_drill.specs.Drill.{DropsWhere, HasBad, HasCopied, IsFree, OpensAll, PrintsDrill, TellsStart, target_secret};
 ghost use Rattle.ferry_run_drill.specs.Steps.{IsUnread, PrintsLine, SendsLine};
 ghost use Rattle.ferry_status.specs.Devices.{written};
 ghost use Rattle.ferry_status.specs.Status.{entropy_failed, source_failed, store_status, target_failed};
@@ -54,6 +53,7 @@ pub fn drill<D: Depot, E: Entropy, K: Sink>(
     ensures used { (n : ℕ) → result ≡ Statuses.Usage n → ⊥ }
     ensures ends { FailedWhere (target_failed result) (D.told target.old) (D.told target.new) }
     ensures target_cause { RoseWhere (target_failed result) (D.faults target.old) (D.faults target.new) }
+    ensures drops { DropsWhere (D.told target.old) (D.told target.new) (E.drawn entropy.old) (E.drawn entropy.new) result }
     ensures entropy { RoseWhere (entropy_failed result) (E.faults entropy.old) (E.faults entropy.new) }
 {
     let Some(mut source) = own_source(alloc, count) else {
@@ -77,7 +77,7 @@ fn finish<D: Depot, K: Sink>(
     requires copied { IfSome (D.told target.old) (λ t. HasCopied count carried.now t.history) }
     ensures prints { PrintsDrill count (D.told target.new) (written (K.written out.old) (K.faults out.old)) result
         (written (K.written out.new) (K.faults out.new)) }
-    ensures start { (start : Files) → IsUncommitted start → TellsStart start result }
+    ensures start { (start : Files) → IsFree start → TellsStart start result }
     ensures completes { EndsChecked count carried.now (D.told target.new) result }
     ensures read { Between (D.told target.old) (D.told target.new) (λ before now. now ≡ before) }
     ensures own { source_failed result ≡ false }

@@ -8,7 +8,7 @@ ghost use Rattle.ferry_piece.specs.Fault.{random_failed, shelf_failed};
 ghost use Rattle.ferry_piece.specs.Work.{Works};
 ghost use Rattle.ferry_repo.specs.Opening.{FitsRepo, OpensFilesTo, RepoState, cached_in, repo_view};
 ghost use Rattle.ferry_run_drill.specs.Complete.{EndsCopy, EndsFrom};
-ghost use Rattle.ferry_run_drill.specs.Drill.{TellsStart, target_secret};
+ghost use Rattle.ferry_run_drill.specs.Drill.{DropsFirst, TellsStart, target_secret};
 ghost use Rattle.ferry_run_drill.specs.Steps.{CopiesNames, IsMadeNew};
 ghost use Rattle.ferry_run_transfer.specs.Transfer.{chosen_of};
 ghost use Rattle.ferry_manifest.specs.Manifest.Writing.{IsPackable};
@@ -82,6 +82,7 @@ pub(crate) fn copy_source<D: Depot, E: Entropy>(
     ensures kept { Between (D.told target.old) (D.told target.new) InitLeaves }
     ensures own { IfErr result (λ fault. shelf_failed fault ≡ false) }
     ensures completes { IfErr result (EndsFrom (files_now source.old.history) (D.told target.old) (D.told target.new)) }
+    ensures drops { OnOk result (DropsFirst (D.told target.old) (D.told target.new) (E.drawn entropy.old) (E.drawn entropy.new)) }
     ensures entropy { HasCause random_failed (E.faults entropy.old) (E.faults entropy.new) result }
 {
     let secret = source_secret(alloc)?;
@@ -108,6 +109,7 @@ fn copy_all<D: Depot, E: Entropy>(
     ensures own { IfErr result (λ fault. shelf_failed fault ≡ false) }
     ensures completes { IfErr result (λ fault. OpensFilesTo (files_now source.old.history) source_secret (repo_view repo.old)
         → EndsFrom (files_now source.old.history) (D.told target.old) (D.told target.new) fault) }
+    ensures drops { OnOk result (DropsFirst (D.told target.old) (D.told target.new) (E.drawn entropy.old) (E.drawn entropy.new)) }
     ensures entropy { HasCause random_failed (E.faults entropy.old) (E.faults entropy.new) result }
 {
     let names = chosen_names(alloc, repo, &[])?;
@@ -134,6 +136,7 @@ fn copy_names<D: Depot, E: Entropy>(
     ensures completes { IfErr result (λ fault. OpensFilesTo (files_now source.old.history) source_secret (repo_view repo.old)
         → names.now ≡ chosen_of [] (repo_view repo.old).manifest
         → EndsFrom (files_now source.old.history) (D.told target.old) (D.told target.new) fault) }
+    ensures drops { OnOk result (DropsFirst (D.told target.old) (D.told target.new) (E.drawn entropy.old) (E.drawn entropy.new)) }
     ensures entropy { HasCause random_failed (E.faults entropy.old) (E.faults entropy.new) result }
 {
     let mut store = make_target(alloc, target, entropy)?;
@@ -165,6 +168,7 @@ fn make_target<D: Depot, E: Entropy>(
     ensures kept { Between (D.told target.old) (D.told target.new) InitLeaves }
     ensures own { IfErr result (λ fault. shelf_failed fault ≡ false) }
     ensures completes { IfErr result (EndsCopy (D.told target.old) (D.told target.new)) }
+    ensures drops { OnOk result (DropsFirst (D.told target.old) (D.told target.new) (E.drawn entropy.old) (E.drawn entropy.new)) }
     ensures entropy { HasCause random_failed (E.faults entropy.old) (E.faults entropy.new) result }
 {
     let mut dropped = [0u8; DROPPED];

@@ -9,9 +9,9 @@ use Rattle.ferry_piece.specs.Fault.{IsOfWork, target_fault}
 use Rattle.ferry_piece.specs.declared.fault.CarryFault.{CarryFault}
 use Rattle.ferry_piece.specs.declared.fault.CarryFault.TheVariants as Carry
 use Rattle.ferry_refs.proofs.LawLemmas.{refs_apart}
-use Rattle.ferry_refs.proofs.TagSameLemmas.{tag_refused_same}
+use Rattle.ferry_refs.proofs.TagSameLemmas.{new_record_same, tag_refused_same}
 use Rattle.ferry_refs.specs.Deleting.{time_of}
-use Rattle.ferry_refs.specs.Tagging.{RefusesTagging}
+use Rattle.ferry_refs.specs.Tagging.{IsOfNewRecord, RefusesTagging}
 use Rattle.ferry_refs.specs.Refs.{RefusesRefs}
 use Rattle.ferry_repo.proofs.LawLemmas.{one_repo, repo_apart}
 use Rattle.ferry_repo.specs.Fault.{IsOfFiles}
@@ -19,7 +19,7 @@ use Rattle.ferry_repo.specs.Opening.{OpensFilesTo, RefusesRepo, RepoState, repo_
 use Rattle.ferry_repo.specs.declared.fault.RepoFault.{RepoFault}
 use Rattle.ferry_repo.specs.declared.fault.RepoFault.TheVariants as Repos
 use Rattle.ferry_run_tag.proofs.ShowLemmas.{Tagging, lie_before}
-use Rattle.ferry_run_tag.specs.Tag.{BreaksNew, LimitsTagging, RefusesTags, TagsDone}
+use Rattle.ferry_run_tag.specs.Tag.{BreaksNew, BreaksRecord, LimitsTagging, RefusesTags, TagsDone}
 use Rattle.ferry_run_tag.specs.Steps.{GetsTags}
 use Rattle.ferry_status.specs.Status.{carry_status, target_status}
 use Rattle.ferry_status.specs.Telling.{RefusesTelling}
@@ -33,6 +33,8 @@ use Rattle.ferry_store.specs.Store.{OpenFits, OpensFound, RefusesOpen}
 use Rattle.ferry_store.specs.declared.fault.StoreRefusal.{StoreRefusal}
 use Rattle.ferry_store.specs.declared.fault.StoreRefusal.TheVariants as Stores
 use Rattle.ferry_store.specs.declared.store.Store.{Store}
+use Rattle.ferry_store.proofs.StepLemmas.{before_same}
+use Rattle.ferry_write.specs.Front.{OnlyRemoves}
 use Rattle.ferry_write.specs.Script.{AllDone}
 use Rattle.ferry_write.specs.declared.fault.WriteFault.TheVariants as Writes
 use Rattle.ferry_check.specs.Report.{ArchiveRead, AreRead}
@@ -64,6 +66,32 @@ untagged_refused asked store (Some t) b c fault opens opened refused = λ begun.
       holds = tag_refused_same (files_now opened.0.history) (told_files t) repo time asked.drawn asked.drawn_now c fault
           (lie_before asked store t.history opened.0.history opens false o) refused_there;
     })
+
+-- a tagging that was refused for what it read appended nothing, but where a chunk is live under the id of a new record
+pub unwritten_then : (asked : Tagging) (store : Store) (a b c : Option Told) (fault : CarryFault) → IfSome a (λ t. t.history.acts ≡ [])
+    → IfSome a (λ t. OpensFilesTo (told_files t) asked.secret (repo_view store.repo)) → Between a b (λ h g. AllDone h g × OpenFits store h g)
+    → Between a b OnlyRemoves
+    → (Between b c (λ h g. g ≡ h) ⊎ IfSome b (λ t. IsOfNewRecord (told_files t) (repo_view store.repo) asked.drawn asked.drawn_now c fault))
+    → Between a c OnlyRemoves ⊎ BreaksRecord asked.secret asked.drawn asked.drawn_now a c fault
+unwritten_then asked store a b c fault begun opens opened removes (inl same) = inl (before_same OnlyRemoves a b c removes same)
+unwritten_then asked store None b c fault begun opens opened removes (inr new) = inr tt
+unwritten_then asked store (Some t) b c fault begun opens opened removes (inr new) =
+    let repo = repo_view store.repo in
+    let o : OpensFound false store t.history opened.0.history = opened.2.1 false begun (λ e. absurd (let no : ⊥ = cc in no)) in
+    let there : IsOfNewRecord (files_now opened.0.history) repo asked.drawn asked.drawn_now c fault =
+    subst (λ (x : Option Told). IfSome x (λ u. IsOfNewRecord (told_files u) repo asked.drawn asked.drawn_now c fault)) opened.1 new in
+    inr (record {
+      repo = repo;
+      opens = opens;
+      holds = new_record_same (files_now opened.0.history) (told_files t) repo asked.drawn asked.drawn_now c fault
+          (lie_before asked store t.history opened.0.history opens false o) there;
+    })
+
+pub refused_unwritten : (asked : Tagging) (a c : Option Told) (fault : CarryFault) (status : Status) → status ≡ carry_status fault
+    → (Between a c OnlyRemoves ⊎ BreaksRecord asked.secret asked.drawn asked.drawn_now a c fault)
+    → Between a c OnlyRemoves ⊎ IsRefusedBy carry_status (BreaksRecord asked.secret asked.drawn asked.drawn_now a c) status
+refused_unwritten asked a c fault status is (inl removes) = inl removes
+refused_unwritten asked a c fault status is (inr breaks) = inr (record { fault = fault; status_is = is; refuses = breaks })
 
 -- they were tagged, and that isn't told
 told_stops : (now : Option Told) (repo : RepoState) → IfSome now (λ t. StopsAt t.history.start (told_files t) repo.keys (Stores.Write Writes.Device))
@@ -139,9 +167,10 @@ module _ (asked : Tagging) (start : Files) (now : Told) (ready : OpensNumbered a
   begun_ends (Stores.Write Writes.Device) refused = tt
   begun_ends (Stores.Write Writes.Memory) refused = tt
   begun_ends (Stores.Write Writes.Numbers) refused = absurd refused
-  begun_ends (Stores.Nonce Nonces.Missing) refused = absurd (let e : None ≡ Some ready.text = sym refused.1.0 ∙ ready.nonce in let no : ⊥ = cc in no)
+  begun_ends (Stores.Nonce Nonces.Missing) refused =
+      absurd (let e : None ≡ Some ready.nonce.text = sym refused.1.0 ∙ ready.nonce.nonce in let no : ⊥ = cc in no)
   begun_ends (Stores.Nonce Nonces.Text) refused =
-      absurd (refused.1 ready.number (subst (λ (o : Option (List ℕ)). IsNonce o ready.number) (sym ready.nonce) ready.spelled))
+      absurd (refused.1 ready.nonce.number (subst (λ (o : Option (List ℕ)). IsNonce o ready.nonce.number) (sym ready.nonce.nonce) ready.nonce.spelled))
   begun_ends (Stores.Nonce Nonces.Exhausted) refused = absurd refused.1
   begun_ends (Stores.Nonce Nonces.Device) refused = tt
   begun_ends (Stores.Nonce Nonces.Memory) refused = tt

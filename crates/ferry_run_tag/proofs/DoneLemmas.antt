@@ -2,7 +2,7 @@
 use Rattle.std.proofs.Common.{inr, inl, ℕ, List, Option, Some, None, refl}
 use Rattle.ferry_disk.specs.Device.{Told}
 use Rattle.ferry_piece.specs.declared.fault.CarryFault.TheVariants as Carry
-use Rattle.ferry_status.proofs.OpenedLemmas.{shut_here}
+use Rattle.ferry_status.proofs.OpenedLemmas.{memory_number, shut_here}
 use Rattle.ferry_run_tag.proofs.CauseLemmas.{tags_done}
 use Rattle.ferry_run_tag.proofs.ShowLemmas.{TagEach, Tagging, each_opened, some_left, tagging}
 use Rattle.ferry_repo.specs.declared.secret.Secret.{Secret}
@@ -29,6 +29,7 @@ tags_nothing secret timestamp all =
     let asked = tagging secret timestamp all.entropy.bytes all.entropy.bytes in
     let told = all.target.told in
     record {
+      unwritten = λ unread. absurd (let no : ⊥ = cc in no);
       completes = tags_done asked told told Statuses.Memory (inr (memory_is asked told told));
       changes = record {
         source = refl;
@@ -39,6 +40,7 @@ tags_nothing secret timestamp all =
             (λ h. some_left asked h h (each_opened asked h h (each_here h)).0);
         kept = λ work. absurd (let no : ⊥ = cc in no);
         shut = shut_here asked.secret told;
+        number = memory_number (λ fault. ⊥) asked.secret told;
         each = here_each (TagEach asked) told (λ h. (each_opened asked h h (each_here h)).0);
       };
     }

@@ -9,7 +9,6 @@ use Rattle.ferry_disk.specs.Image.{PlainFate}
 use Rattle.ferry_disk.specs.Moments.{Moments}
 use Rattle.ferry_disk.specs.declared.name.Name.TheVariants.{Config as ConfigFile}
 use Rattle.ferry_log.specs.Log.{Located}
-use Rattle.ferry_nonce.specs.Counter.{KeepsNumbers}
 use Rattle.ferry_refs.proofs.SameLemmas.{LieIn}
 use Rattle.ferry_refs.proofs.TagSameLemmas.{freed_same, old_same}
 use Rattle.ferry_refs.proofs.TaggedLemmas.{renewed_left, standing_left}
@@ -32,7 +31,7 @@ use Rattle.ferry_store.proofs.StandingLemmas.{state_live}
 use Rattle.ferry_store.proofs.StepLemmas.{first_kept, moments_map, moments_then}
 use Rattle.ferry_store.specs.Standing.{entries_of, live_in}
 use Rattle.ferry_store.specs.State.{IsSound, IsStep, IsUnderWay, ShowsStanding, Written, found}
-use Rattle.ferry_store.specs.Store.{OpenEach, OpenFits, OpensFound}
+use Rattle.ferry_store.specs.Store.{KeepsRun, OpenEach, OpenFits, OpensFound}
 use Rattle.ferry_store.specs.declared.store.Store.{Store}
 use Rattle.ferry_write.proofs.LawLemmas.{fits_now}
 use Rattle.ferry_write.specs.Room.{behind}
@@ -162,8 +161,8 @@ each_tagged asked store h g i opens each done fits sound =
         (
           λ begun.
               let o = found_then begun in
-              moments_then KeepsNumbers h g i (each.1.1.0 begun) done
-              (moments_map (IsSound (ShowsRenewed (files_now g) repo time o.fits.written) false) KeepsNumbers g i (λ k s. s.numbers)
+              moments_then KeepsRun h g i (each.1.1.0 begun) done
+              (moments_map (IsSound (ShowsRenewed (files_now g) repo time o.fits.written) false) KeepsRun g i (λ k s. (s.numbers, s.types))
               (sound false o.fits)),
           λ begun.
               let o = found_then begun in

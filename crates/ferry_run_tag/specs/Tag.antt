@@ -1,26 +1,28 @@
 -- What the command that tags the archives of a repository leaves in its target, whatever a stop of the machine does, and what it says where it tags none.
-use Rattle.std.specs.Prelude.{◌≡◌, ◌++◌, ℕ, Bool, true, List, [], ◌∷◌, codes, decimal, length, Option, IfSome}
+use Rattle.std.specs.Prelude.{◌≡◌, ◌⊎◌, ◌++◌, ℕ, Bool, true, List, [], ◌∷◌, codes, decimal, length, Option, IfSome}
 use Rattle.ferry_blob.specs.declared.fault.BlobFault.{BlobFault}
 use Rattle.ferry_check.specs.Report.{ArchiveRead, AreRead, untagged}
 use Rattle.ferry_disk.specs.Act.{History, files_now}
 use Rattle.ferry_disk.specs.Device.{Told, told_files}
 use Rattle.ferry_disk.specs.Files.{Files}
+use Rattle.ferry_disk.specs.Moments.{Between}
 use Rattle.ferry_piece.specs.declared.fault.CarryFault.{CarryFault}
 use Rattle.ferry_refs.specs.Deleting.{time_of}
-use Rattle.ferry_refs.specs.Tagging.{DrawsTags, HasLargeRecord, HasLargeTagged, IsNewId, KeepsArchives, RefusesTagging}
+use Rattle.ferry_refs.specs.Tagging.{DrawsTags, HasLargeRecord, HasLargeTagged, IsNewId, IsOfNewRecord, KeepsArchives, RefusesTagging}
 use Rattle.ferry_repo.specs.Opening.{OpensFilesTo, RepoState}
 use Rattle.ferry_repo.specs.declared.fault.RepoFault.TheVariants as Repos
 use Rattle.ferry_repo.specs.declared.secret.Secret.{Secret}
-use Rattle.ferry_status.specs.Devices.{Devices}
+use Rattle.ferry_status.specs.Devices.{Devices, IsRefusedBy}
+use Rattle.ferry_status.specs.Status.{carry_status, is_unread}
 use Rattle.ferry_status.specs.declared.status.Limit.{Limit}
 use Rattle.ferry_status.specs.declared.status.Limit.TheVariants as Limits
 use Rattle.ferry_status.specs.declared.status.Refusal.TheVariants as Refusals
 use Rattle.ferry_status.specs.declared.status.Status.{Status}
 use Rattle.ferry_status.specs.declared.status.Status.TheVariants as Statuses
-use Rattle.ferry_status.specs.Opened.{ChangesArchives, IsDoneUnless, OpensNumbered}
+use Rattle.ferry_status.specs.Opened.{ChangesArchives, IsDoneUnless, OpensNumbered, OpensWith}
 use Rattle.ferry_stops.specs.Tells.{lines_of}
 use Rattle.ferry_store.specs.Causes.{BreaksLive, HasFewBlocks, HasLastSegment}
-use Rattle.ferry_write.specs.Front.{LeavesSegments}
+use Rattle.ferry_write.specs.Front.{LeavesSegments, OnlyRemoves}
 
 -- the line that is told of so many records that got a tag
 abbrev pub tagged_line : ℕ → List ℕ
@@ -78,13 +80,20 @@ TagsDone secret timestamp drawn drawn_now before now status = IfSome before (λ 
     → IsDoneUnless (LimitsTagging timestamp ready.repo (told_files b) t.history.start (told_files t))
     (BreaksNew (told_files b) ready.repo drawn drawn_now (told_files t)) status))
 
+-- The target opened, and a fault is one of a chunk that is live under the id of a new record, and breaks a rule.
+abbrev pub BreaksRecord : Secret → Option (List ℕ) → Option (List ℕ) → Option Told → Option Told → CarryFault → Type 0
+BreaksRecord secret drawn drawn_now before now fault =
+    IfSome before (λ t. OpensWith secret (λ files repo. IsOfNewRecord files repo drawn drawn_now now fault) (told_files t))
+
 -- ---- the whole of what is claimed
 
 -- Each record of an archive gets an authentication tag that has none; how many these were is told. Where the target opens, and the record and the stream of
 -- each archive read, that is done, unless memory is refused, a device fails, a limit is met, or a chunk is live under the id of a new record and doesn't
 -- open. Each archive that was whole is whole and says the same, where no contents collide among the new records and what was live, under the same names with
--- the same times; all have the tags that they had, or all have one.
+-- the same times; all have the tags that they had, or all have one. Where the target is refused, but for such a chunk, no segment came or changed.
 pub record TagsArchives (secret : Secret) (timestamp : Option (List ℕ)) (before : Devices) (status : Status) (after : Devices) : Type 0 where
   pub changes : ChangesArchives secret (LeavesArchives secret timestamp) (HasTagged secret timestamp before.entropy.bytes after.entropy.bytes)
       (RefusesTags timestamp before.entropy.bytes after.entropy.bytes) before status after
+  pub unwritten : is_unread status ≡ true → Between before.target.told after.target.told OnlyRemoves
+      ⊎ IsRefusedBy carry_status (BreaksRecord secret before.entropy.bytes after.entropy.bytes before.target.told after.target.told) status
   pub completes : TagsDone secret timestamp before.entropy.bytes after.entropy.bytes before.target.told after.target.told status

@@ -1,7 +1,7 @@
 //! The command that tags archives.
 ghost use Rattle.std.specs.Option.{option_copied};
 ghost use Rattle.std.specs.Prelude.{◌≡◌, ◌⊎◌, ℕ, [], false, true, IfErr, IfOk, IfSome};
-ghost use Rattle.ferry_piece.specs.Fault.{IsOfWork, random_failed, shelf_failed};
+ghost use Rattle.ferry_piece.specs.Fault.{IsOfReading, IsOfWork, random_failed, shelf_failed};
 ghost use Rattle.ferry_piece.specs.Work.{Works};
 ghost use Rattle.ferry_disk.specs.Act.{TellOf, with_act};
 ghost use Rattle.ferry_disk.specs.Device.{HasCause, RoseWhere};
@@ -10,14 +10,15 @@ ghost use Rattle.ferry_disk.specs.Moments.{Between};
 ghost use Rattle.ferry_store.specs.Fault.{source_failed};
 ghost use Rattle.ferry_store.specs.State.{Did, IsStep};
 ghost use Rattle.ferry_store.specs.Store.{OpenLeaves};
-ghost use Rattle.ferry_run_tag.specs.Tag.{HasTagged, LeavesArchives, RefusesTags, TagsDone};
+ghost use Rattle.ferry_run_tag.specs.Tag.{BreaksRecord, HasTagged, LeavesArchives, RefusesTags, TagsDone};
 ghost use Rattle.ferry_run_tag.specs.Tag.{tagged_line};
 ghost use Rattle.ferry_run_tag.specs.Steps.{GetsTags};
-ghost use Rattle.ferry_status.specs.Status.{carry_status, entropy_failed, is_of_work, output_failed, source_failed as of_source, target_failed};
+ghost use Rattle.ferry_status.specs.Status.{carry_status, entropy_failed, is_of_work, is_unread, output_failed, source_failed as of_source, target_failed};
 ghost use Rattle.ferry_status.specs.Telling.{RefusesTelling};
 ghost use Rattle.ferry_status.specs.declared.status.Status.TheVariants as TheStatus;
-ghost use Rattle.ferry_status.specs.Opened.{ChangesEach, ChangesLeave, LeavesAll, RefusesChange};
+ghost use Rattle.ferry_status.specs.Opened.{ChangesEach, ChangesLeave, EndsNumbered, LeavesAll, NeedsNumber, RefusesChange};
 ghost use Rattle.ferry_status.specs.Devices.{IsRefusedBy};
+ghost use Rattle.ferry_write.specs.Front.{OnlyRemoves};
 
 use ferry_base::Bytes;
 use ferry_disk::{Depot, Entropy};
@@ -47,8 +48,12 @@ pub fn tag_archives<D: Depot, E: Entropy>(
     ensures ended { result ≡ TheStatus.Done → Between (D.told target.old) (D.told target.new) (λ h g.
         h.acts ≡ [] → HasTagged secret.now timestamp (E.drawn entropy.old) (E.drawn entropy.new) h g) }
     ensures left { Between (D.told target.old) (D.told target.new) (ChangesLeave secret.now (LeavesArchives secret.now timestamp)) }
-    // Where the target doesn't open, nothing is done.
+    // Where the target doesn't open, or has no number in its file `nonce`, it is refused for that, and nothing is done.
     ensures shut { Between (D.told target.old) (D.told target.new) (OpenLeaves secret.now) }
+    ensures number { EndsNumbered (λ fault. ⊥) secret.now (D.told target.old) result }
+    // Where the target is refused, but for a chunk that is live under the id of a new record, each segment is as it was, or is gone.
+    ensures unwritten { is_unread result ≡ true → Between (D.told target.old) (D.told target.new) OnlyRemoves
+        ⊎ IsRefusedBy carry_status (BreaksRecord secret.now (E.drawn entropy.old) (E.drawn entropy.new) (D.told target.old) (D.told target.new)) result }
     ensures kept { is_of_work result ≡ true → Between (D.told target.old) (D.told target.new) (LeavesAll secret.now (LeavesArchives secret.now timestamp)) }
     ensures refused { (result ≡ TheStatus.Done) ⊎ IsRefusedBy carry_status
         (RefusesChange secret.now (RefusesTags timestamp (E.drawn entropy.old) (E.drawn entropy.new) (D.told target.new)) (D.told target.old)) result }
@@ -84,6 +89,9 @@ fn tag_and_tell<D: Depot, E: Entropy>(
     ensures kept { IfErr result (λ fault. IsOfWork fault
         → Between (D.told target.old) (D.told target.new) (LeavesAll secret.now (LeavesArchives secret.now timestamp.now))) }
     ensures shut { Between (D.told target.old) (D.told target.new) (OpenLeaves secret.now) }
+    ensures number { NeedsNumber (λ fault. ⊥) secret.now (D.told target.old) result }
+    ensures unwritten { IfErr result (λ fault. IsOfReading fault → Between (D.told target.old) (D.told target.new) OnlyRemoves
+        ⊎ BreaksRecord secret.now (E.drawn entropy.old) (E.drawn entropy.new) (D.told target.old) (D.told target.new) fault) }
     ensures shelf { IfErr result (λ fault. shelf_failed fault ≡ false) }
     ensures entropy { HasCause random_failed (E.faults entropy.old) (E.faults entropy.new) result }
 {
@@ -110,6 +118,9 @@ fn tag_target<D: Depot, E: Entropy>(
     ensures kept { IfErr result (λ fault. IsOfWork fault
         → Between (D.told target.old) (D.told target.new) (LeavesAll secret.now (LeavesArchives secret.now timestamp.now))) }
     ensures shut { Between (D.told target.old) (D.told target.new) (OpenLeaves secret.now) }
+    ensures number { NeedsNumber (λ fault. ⊥) secret.now (D.told target.old) result }
+    ensures unwritten { IfErr result (λ fault. IsOfReading fault → Between (D.told target.old) (D.told target.new) OnlyRemoves
+        ⊎ BreaksRecord secret.now (E.drawn entropy.old) (E.drawn entropy.new) (D.told target.old) (D.told target.new) fault) }
     ensures shelf { IfErr result (λ fault. shelf_failed fault ≡ false) }
     ensures entropy { HasCause random_failed (E.faults entropy.old) (E.faults entropy.new) result }
 {

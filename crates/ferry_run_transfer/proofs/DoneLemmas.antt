@@ -25,14 +25,14 @@ use Rattle.ferry_stops.specs.Tells.{lines_of}
 use Rattle.ferry_store.specs.Store.{RefusesOpen}
 use Rattle.ferry_store.specs.declared.fault.StoreRefusal.{StoreRefusal}
 use Rattle.ferry_store.specs.declared.fault.StoreRefusal.TheVariants as Store
-use Rattle.ferry_status.proofs.OpenedLemmas.{shut_here}
+use Rattle.ferry_status.proofs.OpenedLemmas.{shut_here, memory_number}
 use Rattle.ferry_run_transfer.proofs.PuttingLemmas.{untouched_puts}
 use Rattle.ferry_run_transfer.proofs.RerunLemmas.{chosen_again}
 use Rattle.ferry_run_transfer.specs.Rerun.{EachChosen, IsAbsentOrEqual}
 use Rattle.ferry_status.specs.Status.{carry_status, repo_status, store_status, target_status}
 use Rattle.ferry_carry.specs.States.{Drawn, drawn_from}
 use Rattle.ferry_run_transfer.specs.Transfer.{KeepsArchives, NoneCollide, Request, TransferEach, TransferLeaves, asked, chosen_of}
-use Rattle.ferry_run_transfer.specs.TransferCauses.{EndsDone, IsDoneUnless, IsFirstMissing, IsReadyFor, IsRefusedSo, IsTaken}
+use Rattle.ferry_run_transfer.specs.TransferCauses.{EndsDone, IsDoneUnless, IsFirstMissing, IsReadyFor, IsRefusedSo, IsTaken, IsBeforeTarget}
 use Rattle.ferry_run_transfer.specs.TransferCauses.{RefusesAsked, RefusesSource, RefusesTransfer, StopsWriting}
 use Rattle.ferry_status.specs.declared.status.Status.{Status}
 use Rattle.ferry_status.specs.declared.status.Status.TheVariants as Statuses
@@ -281,6 +281,7 @@ transfers_nothing request all =
       untouched = if_some request.source _ (λ source told none. (refl, refl));
       left = between_map told told (TransferEach request) (TransferLeaves request) (left_of request) (each_told request told);
       shut = shut_here request.secrets.target told;
+      number = memory_number (IsBeforeTarget request) request.secrets.target told;
       only_told = λ e. absurd (let no : ⊥ = cc in no);
       puts = untouched_puts request told;
       put = λ e. absurd (let no : ⊥ = cc in no);

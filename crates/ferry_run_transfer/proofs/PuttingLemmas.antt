@@ -34,14 +34,13 @@ use Rattle.ferry_stops.specs.Entries.{Shows}
 use Rattle.ferry_store.proofs.StepLemmas.{here_each, moments_here, moments_map, moments_then}
 use Rattle.ferry_store.specs.Commit.{accepted_in, IsSettled}
 use Rattle.ferry_store.specs.Standing.{entries_of}
-use Rattle.ferry_store.specs.State.{Did}
+use Rattle.ferry_store.specs.State.{HasNumber, Did}
 use Rattle.ferry_store.specs.Store.{OpenEach, OpenFits, RefusesOpen}
 use Rattle.ferry_store.specs.declared.fault.StoreRefusal.{StoreRefusal}
 use Rattle.ferry_store.specs.declared.fault.StoreRefusal.TheVariants as Store
 use Rattle.ferry_store.specs.declared.store.Store.{Store as StoreOf}
 use Rattle.ferry_run_transfer.proofs.CarriedLemmas.{begun_of}
 use Rattle.ferry_run_transfer.specs.Putting.{HasPart, LeavesFirst, PutsFirst, TransferPuts, is_spared}
-use Rattle.ferry_run_transfer.specs.Rerun.{HasNumber}
 use Rattle.ferry_run_transfer.specs.Transfer.{Request, asked, chosen_of}
 use Rattle.ferry_status.specs.Status.{carry_status}
 use Rattle.ferry_status.specs.declared.status.Secrets.{Secrets}

@@ -16,7 +16,8 @@ use Rattle.ferry_store.proofs.StandingLemmas.{opened_unlocks}
 use Rattle.ferry_store.specs.New.{OpensNew}
 use Rattle.ferry_store.specs.Standing.{UnlocksSettings}
 use Rattle.ferry_run_transfer.proofs.RerunLemmas.{number_again}
-use Rattle.ferry_run_transfer.specs.Rerun.{HasNumber, KeepsNonce}
+use Rattle.ferry_run_transfer.specs.Rerun.{KeepsNonce}
+use Rattle.ferry_store.specs.State.{HasNumber}
 use Rattle.ferry_carry.specs.States.{Drawn}
 use Rattle.ferry_run_transfer.specs.Transfer.{KeepsArchives, NoneCollide, Request, chosen_of}
 use Rattle.ferry_run_transfer.specs.TransferCauses.{IsOfAdded, IsReadyFor}

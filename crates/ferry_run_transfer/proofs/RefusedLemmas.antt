@@ -1,4 +1,5 @@
 -- Lemmas on specs/TransferCauses.antt: why a transfer isn't done that didn't come to open its target.
+use Rattle.ferry_manifest.specs.Manifest.Text.{ManifestText}
 use Rattle.std.proofs.Common.{◌≡◌, ◌⊎◌, inl, inr, ℕ, List, [], Option, Some, None}
 use Rattle.std.proofs.Common.{refl, sym, subst, slice_get, IfSome, IsSome, ap, ◌∙◌}
 use Rattle.ferry_carry.specs.Chosen.{IsMissingName}
@@ -18,7 +19,7 @@ use Rattle.ferry_store.specs.declared.fault.StoreRefusal.{StoreRefusal}
 use Rattle.ferry_store.specs.declared.fault.StoreRefusal.TheVariants as Store
 use Rattle.ferry_carry.specs.States.{Drawn}
 use Rattle.ferry_run_transfer.specs.Transfer.{Request, asked, chosen_of}
-use Rattle.ferry_run_transfer.specs.TransferCauses.{IsFound, RefusesAsked, RefusesTransfer, WhereRead}
+use Rattle.ferry_run_transfer.specs.TransferCauses.{IsFound, RefusesAsked, RefusesTransfer, WhereRead, IsBeforeTarget}
 use Rattle.ferry_status.specs.declared.status.Secrets.{Secrets}
 
 -- where files are read
@@ -94,6 +95,19 @@ pub asked_source : (secrets : Secrets) (options : Options) (names : List (List �
     → IfSome (asked secrets options names told).source (λ files. RefusesRepo files secrets.source fault)
 asked_source secrets options names None fault refused = tt
 asked_source secrets options names (Some t) fault refused = refused
+
+-- it comes before the target is opened
+pub unread_before : (request : Request) (fault : RepoFault) → IfSome request.source (λ files. RefusesRepo files request.secrets.source fault)
+    → IsBeforeTarget request (source_fault fault)
+unread_before request fault refused = source_or (IsBeforeTarget request) fault tt refused
+
+-- and so does a name that is missing
+pub missing_before : (request : Request) (manifest : ManifestText) (chosen : List (List ℕ)) (fault : CarryFault)
+    → (fault ≡ Carry.Memory) ⊎ ((place : ℕ) × ((name : List ℕ)
+    × (IsMissingName manifest chosen place × ((slice_get chosen place ≡ Some name) × (fault ≡ Carry.NotFound name)))))
+    → IsBeforeTarget request fault
+missing_before request manifest chosen fault (inl memory) = subst (IsBeforeTarget request) (sym memory) tt
+missing_before request manifest chosen fault (inr missing) = subst (IsBeforeTarget request) (sym missing.1.1.1.1) tt
 
 -- where a name is missing
 pub missing_refused : (drawn : Drawn) (secrets : Secrets) (options : Options) (names : List (List ℕ)) (source : RepoState) (told a b : Option Told)

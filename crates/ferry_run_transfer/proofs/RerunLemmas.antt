@@ -20,7 +20,8 @@ use Rattle.ferry_repo.specs.Opening.{RepoState, OpensFilesTo}
 use Rattle.ferry_repo.specs.Whole.{HasWhole, WholeArchive}
 use Rattle.ferry_stops.specs.Counters.{IsNonce}
 use Rattle.ferry_store.specs.New.{OpensNew}
-use Rattle.ferry_run_transfer.specs.Rerun.{AreLeftInTurn, EachChosen, HasNumber, IsAbsentOrEqual, IsEqualThere, IsNamedOrChosen, KeepsNonce, LacksName}
+use Rattle.ferry_run_transfer.specs.Rerun.{AreLeftInTurn, EachChosen, IsAbsentOrEqual, IsEqualThere, IsNamedOrChosen, KeepsNonce, LacksName}
+use Rattle.ferry_store.specs.State.{HasNumber}
 use Rattle.ferry_run_transfer.specs.Rerun.{MeetsConditions}
 use Rattle.ferry_run_transfer.specs.Transfer.{Arrives, IsChosenFront, KeepsArchives, NoneCollide, Request, chosen_of}
 

@@ -27,7 +27,6 @@ use Rattle.ferry_disk.specs.Image.{PlainFate}
 use Rattle.ferry_disk.specs.Moments.{Between}
 use Rattle.ferry_disk.specs.declared.name.Name.TheVariants.{Config as ConfigFile}
 use Rattle.ferry_manifest.specs.Manifest.Text.{ManifestText}
-use Rattle.ferry_nonce.specs.Counter.{KeepsNumbers}
 use Rattle.ferry_repo.proofs.LawLemmas.{one_repo}
 use Rattle.ferry_repo.specs.Opening.{OpensFilesTo, RepoState, repo_view}
 use Rattle.ferry_segment.specs.Entry.{LogEntry}
@@ -41,7 +40,7 @@ use Rattle.ferry_store.proofs.StepLemmas.{did_known, first_kept, moments_map, mo
 use Rattle.ferry_store.specs.Commit.{accepted_in, IsSettled}
 use Rattle.ferry_store.specs.Standing.{committed_of, entries_of, live_in, with_manifest}
 use Rattle.ferry_store.specs.State.{Did, ShowsStanding, Written, found}
-use Rattle.ferry_store.specs.Store.{OpenEach, OpenFits, OpensFound, StoreFits}
+use Rattle.ferry_store.specs.Store.{KeepsRun, OpenEach, OpenFits, OpensFound, StoreFits}
 use Rattle.ferry_store.specs.declared.store.Store.{Store}
 use Rattle.ferry_run_transfer.specs.Transfer.{AddsAllBehind, KeepsArchives, ListsChosen, Request, TransferEach, TransferEnds, TransferShows, asked, chosen_of}
 use Rattle.ferry_status.specs.declared.status.Secrets.{Secrets}
@@ -190,9 +189,9 @@ module _ (secrets : Secrets) (options : Options) (names : List (List ℕ)) (sour
       (
         λ begun.
             let o = fits false begun (λ c. absurd (let no : ⊥ = cc in no)) in
-            moments_then KeepsNumbers h g i (each.1.1.0 begun) done
-            (moments_map (IsReportedOf from chosen store within o.fits.written false g) KeepsNumbers g i
-            (λ k at. at.sound.numbers) (reported false o.fits)),
+            moments_then KeepsRun h g i (each.1.1.0 begun) done
+            (moments_map (IsReportedOf from chosen store within o.fits.written false g) KeepsRun g i
+            (λ k at. (at.sound.numbers, at.sound.types)) (reported false o.fits)),
         λ begun.
             let o = fits false begun (λ c. absurd (let no : ⊥ = cc in no)) in
             first_kept (IsReportedOf from chosen store within o.fits.written false g) g i

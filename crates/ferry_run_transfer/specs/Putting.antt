@@ -8,7 +8,7 @@ use Rattle.ferry_repo.specs.Opening.{OpensFilesTo, RepoState}
 use Rattle.ferry_segment.specs.Entry.{LogEntry}
 use Rattle.ferry_stops.specs.Entries.{Shows}
 use Rattle.ferry_write.specs.Front.{HasEntries, HasFront, LeavesSegments}
-use Rattle.ferry_run_transfer.specs.Rerun.{HasNumber}
+use Rattle.ferry_store.specs.State.{HasNumber}
 use Rattle.ferry_run_transfer.specs.Transfer.{IsBegun, Request}
 use Rattle.ferry_status.specs.Status.{is_of_work}
 use Rattle.ferry_status.specs.declared.status.Limit.TheVariants.{Segment}

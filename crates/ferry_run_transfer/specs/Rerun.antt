@@ -1,15 +1,15 @@
 -- A transfer that is run again: what it asks of the archives of its target, and what the stops of earlier runs left.
 use Rattle.std.specs.Prelude.{◌≡◌, ◌⊎◌, ℕ, List, [], ◌∷◌, Option, Some, None, IfSome, IsSome}
 use Rattle.ferry_piece.specs.Gather.{IsAmong}
-use Rattle.ferry_disk.specs.Files.{Files, file_at}
-use Rattle.ferry_disk.specs.declared.name.Name.TheVariants.{Nonce as NonceFile}
+use Rattle.ferry_disk.specs.Files.{Files}
 use Rattle.ferry_manifest.specs.Manifest.Text.{ManifestText}
 use Rattle.ferry_manifest.specs.declared.manifest.ArchiveRef.{ArchiveRef}
 use Rattle.ferry_repo.specs.Archives.{archive_named}
 use Rattle.ferry_repo.specs.Opening.{RepoState, OpensFilesTo}
 use Rattle.ferry_repo.specs.Whole.{HasWhole, WholeArchive}
 use Rattle.ferry_nonce.specs.Counter.{HasAtLeast}
-use Rattle.ferry_stops.specs.Counters.{IsNonce, SpellsNumber}
+use Rattle.ferry_stops.specs.Counters.{IsNonce}
+use Rattle.ferry_store.specs.State.{HasNumber}
 use Rattle.ferry_run_transfer.specs.Transfer.{KeepsArchives, NoneCollide, Request, chosen_of}
 
 -- ---- what is asked of a target
@@ -31,13 +31,6 @@ IsAbsentOrEqual request source image repo name = LacksName repo.manifest name �
 abbrev pub EachChosen : Request → Option Files → (Files → List ℕ → Type 0) → Type 0
 EachChosen request told Holds = IfSome told (λ source. (from : RepoState) → OpensFilesTo source request.secrets.source from → (name : List ℕ)
     → IsAmong (chosen_of request.names from.manifest) name → Holds source name)
-
--- The file `nonce` is there, and has a number.
-pub record HasNumber (files : Files) : Type 0 where
-  pub text : List ℕ
-  pub nonce : file_at files NonceFile ≡ Some text
-  pub number : ℕ
-  pub spelled : SpellsNumber text number
 
 -- Where the file `nonce` of the first had a number, that of the second has one that isn't lower, and is there where it was.
 abbrev pub KeepsNonce : Files → Files → Type 0

@@ -186,6 +186,13 @@ RefusesTransfer request drawn source start lines image Carry.Pieces = HasLongCho
 RefusesTransfer request drawn source start lines image Carry.Memory = Unit {0}
 RefusesTransfer request drawn source start lines image Carry.Record = HasLargeChosen request source start lines
 
+-- A fault comes before the target is opened: the source's files don't open, a chosen name isn't among its archives, or memory was refused.
+abbrev pub IsBeforeTarget : Request → CarryFault → Type 0
+IsBeforeTarget request (Carry.Source fault) = IfSome request.source (λ source. RefusesRepo source request.secrets.source fault)
+IsBeforeTarget request (Carry.NotFound name) = Unit {0}
+IsBeforeTarget request Carry.Memory = Unit {0}
+IsBeforeTarget request fault = ⊥
+
 -- What holds of the source's files, of the target's in a run that had made no act, of the lines that it told, and of the target's files as they are read at
 -- its end, where all are told.
 abbrev pub WhereRead : Option Files → Option Told → Option Told → (Files → Files → List (List ℕ) → Files → Type 0) → Type 0

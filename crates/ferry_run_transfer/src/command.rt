@@ -1,4 +1,5 @@
 //! The command that copies archives.
+ghost use Rattle.ferry_status.specs.Opened.{EndsNumbered, NeedsNumber};
 ghost use Rattle.std.specs.Prelude.{◌≡◌, ◌⊎◌, ℕ, [], false, true, IfErr, IfSome};
 ghost use Rattle.ferry_piece.specs.Fault.{IsOfWork, random_failed, shelf_failed};
 ghost use Rattle.ferry_carry.specs.Flight.{AreRight};
@@ -13,7 +14,7 @@ ghost use Rattle.ferry_status.specs.Status.{carry_status, entropy_failed, is_of_
 ghost use Rattle.ferry_carry.specs.States.{drawn_from};
 ghost use Rattle.ferry_run_transfer.specs.Transfer.{LeavesTold, TransferEach, TransferEnds, TransferLeaves, asked};
 ghost use Rattle.ferry_store.specs.Store.{OpenLeaves};
-ghost use Rattle.ferry_run_transfer.specs.TransferCauses.{EndsDone, IsFound, IsRefusedSo, RefusesAsked};
+ghost use Rattle.ferry_run_transfer.specs.TransferCauses.{EndsDone, IsFound, IsRefusedSo, RefusesAsked, IsBeforeTarget};
 
 use crate::names::{chosen_names, find_names};
 use ferry_base::Bytes;
@@ -60,8 +61,9 @@ pub fn transfer<S: Shelf, D: Depot, E: Entropy>(
         (drawn_from (E.drawn entropy.old) (E.drawn entropy.new)) (D.told target.old) (D.told target.new) result }
     ensures left { Between (D.told target.old) (D.told target.new)
         (TransferLeaves (asked secrets.now options.now names.now (S.told source.old))) }
-    // Where the target doesn't open, nothing is done.
+    // Where the target doesn't open, or has no number in its file `nonce`, it is refused for that, and nothing is done.
     ensures shut { Between (D.told target.old) (D.told target.new) (OpenLeaves secrets.now.target) }
+    ensures number { EndsNumbered (IsBeforeTarget (asked secrets.now options.now names.now (S.told source.old))) secrets.now.target (D.told target.old) result }
     ensures only_told { is_of_work result ≡ true → Between (D.told target.old) (D.told target.new)
         (LeavesTold (asked secrets.now options.now names.now (S.told source.old))) }
     // At each moment all that the segments have is what they had, and behind it the first of what is added for the chosen names.
@@ -107,6 +109,7 @@ fn copy<S: Shelf, D: Depot, E: Entropy>(
     ensures refused { IfErr result (RefusesAsked (asked secrets.now options.now names.now (S.told source.old))
         (drawn_from (E.drawn entropy.old) (E.drawn entropy.new)) (D.told target.old) (D.told target.new)) }
     ensures shut { Between (D.told target.old) (D.told target.new) (OpenLeaves secrets.now.target) }
+    ensures number { NeedsNumber (IsBeforeTarget (asked secrets.now options.now names.now (S.told source.old))) secrets.now.target (D.told target.old) result }
     ensures only_told { IfErr result (λ fault. IsOfWork fault → Between (D.told target.old) (D.told target.new)
         (LeavesTold (asked secrets.now options.now names.now (S.told source.old)))) }
     ensures puts { Between (D.told target.old) (D.told target.new) (TransferPuts (asked secrets.now options.now names.now (S.told source.old))) }
@@ -148,6 +151,7 @@ fn copy_into<S: Shelf, D: Depot, E: Entropy>(
     ensures refused { IfErr result (RefusesAsked (asked secrets.now options.now names.now (S.told source.old))
         (drawn_from (E.drawn entropy.old) (E.drawn entropy.new)) (D.told target.old) (D.told target.new)) }
     ensures shut { Between (D.told target.old) (D.told target.new) (OpenLeaves secrets.now.target) }
+    ensures number { NeedsNumber (IsBeforeTarget (asked secrets.now options.now names.now (S.told source.old))) secrets.now.target (D.told target.old) result }
     ensures only_told { IfErr result (λ fault. IsOfWork fault → Between (D.told target.old) (D.told target.new)
         (LeavesTold (asked secrets.now options.now names.now (S.told source.old)))) }
     ensures puts { Between (D.told target.old) (D.told target.new) (TransferPuts (asked secrets.now options.now names.now (S.told source.old))) }

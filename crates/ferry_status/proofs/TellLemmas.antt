@@ -21,10 +21,12 @@ use Rattle.ferry_stops.specs.Blobs.{AllTraced, BlobOf}
 use Rattle.ferry_stops.specs.Chance.{EachStop, FileByNoChance, IsLeft}
 use Rattle.ferry_stops.specs.Counters.{IsKept}
 use Rattle.ferry_stops.specs.Entries.{ShowsSomething}
+use Rattle.ferry_store.proofs.SoundLemmas.{types_beside}
 use Rattle.ferry_store.proofs.StepLemmas.{acts_done, acts_step, moments_then, step_done, step_moments}
 use Rattle.ferry_store.specs.Fault.{depot_failed, repo_refusal, store_refusal}
 use Rattle.ferry_store.specs.State.{Did, IsStep}
-use Rattle.ferry_store.specs.Store.{InitKeeps, NumbersOn}
+use Rattle.ferry_store.specs.Store.{InitKeeps, KeepsRun, NumbersOn}
+use Rattle.ferry_store.specs.Types.{KeepsTypes}
 use Rattle.ferry_status.specs.Telling.{RefusesTelling}
 use Rattle.ferry_write.proofs.LawLemmas.{beside_blobs, beside_traced}
 use Rattle.ferry_write.specs.Script.{AllDone}
@@ -72,6 +74,12 @@ tell_numbers line done h keeps number is =
       stays = λ image left some. kept.stays image ((tell_step h.start h.acts line done image).0 left) some;
     }
 
+tell_types : (line : List ℕ) (done : Bool) (h : History) → KeepsTypes h → KeepsTypes (with_act (TellOf line) done h)
+tell_types line done h types = types_beside (TellOf line) done h tt types
+
+pub tell_run : (line : List ℕ) (done : Bool) (h : History) → KeepsRun h → KeepsRun (with_act (TellOf line) done h)
+tell_run line done h keeps = (tell_numbers line done h keeps.0, tell_types line done h keeps.1)
+
 -- ---- each moment, behind acts that are all done
 
 pub stops_then : (P : Files → Type 0) (line : List ℕ) (h g i : History) → Moments (EachStop P) h g → AllDone h g → IsStep (TellOf line) g i
@@ -85,10 +93,14 @@ keeps_then line h g i keeps done is e kept =
     let first = keeps e kept in
     moments_then P h g i first done (step_moments P (TellOf line) g i first.last (λ d. tell_kept line d g first.last) is)
 
+-- what is kept while a line is told, at each moment of a run that had made no act
+pub stays_then : (P : History → Type 0) (line : List ℕ) (h g i : History) → ((done : Bool) (k : History) → P k → P (with_act (TellOf line) done k))
+    → (h.acts ≡ [] → Moments P h g) → AllDone h g → IsStep (TellOf line) g i → h.acts ≡ [] → Moments P h i
+stays_then P line h g i told stays done is e =
+    let first = stays e in moments_then P h g i first done (step_moments P (TellOf line) g i first.last (λ d. told d g first.last) is)
+
 pub numbers_then : (line : List ℕ) (h g i : History) → NumbersOn h g → AllDone h g → IsStep (TellOf line) g i → NumbersOn h i
-numbers_then line h g i numbers done is e =
-    let first = numbers e in
-    moments_then KeepsNumbers h g i first done (step_moments KeepsNumbers (TellOf line) g i first.last (λ d. tell_numbers line d g first.last) is)
+numbers_then line h g i numbers done is = stays_then KeepsRun line h g i (λ d k. tell_run line d k) numbers done is
 
 -- Some acts were made.
 abbrev pub AreSome : List Act → Type 0

@@ -1,10 +1,9 @@
 -- What is said of files that open under a secret: what a command leaves that changes archives of a target, and that it is done or refused.
-use Rattle.std.specs.Prelude.{◌≡◌, ◌⊎◌, ℕ, Bool, true, false, List, [], Option, Some, IfSome}
+use Rattle.std.specs.Prelude.{◌≡◌, ◌⊎◌, ℕ, Bool, true, false, List, [], Option, Some, IfSome, Result, IsErrAnd}
 use Rattle.ferry_disk.specs.Act.{History, files_now}
 use Rattle.ferry_disk.specs.Device.{Told, told_files}
-use Rattle.ferry_disk.specs.Files.{Files, file_at}
+use Rattle.ferry_disk.specs.Files.{Files}
 use Rattle.ferry_disk.specs.Moments.{Between, Moments}
-use Rattle.ferry_disk.specs.declared.name.Name.TheVariants.{Nonce as NonceFile}
 use Rattle.ferry_piece.specs.Fault.{target_fault}
 use Rattle.ferry_piece.specs.declared.fault.CarryFault.{CarryFault}
 use Rattle.ferry_repo.specs.Opening.{OpensFilesTo, RepoState}
@@ -15,8 +14,8 @@ use Rattle.ferry_status.specs.declared.status.Limit.{Limit as LimitKind}
 use Rattle.ferry_status.specs.declared.status.Status.{Status}
 use Rattle.ferry_status.specs.declared.status.Status.TheVariants.{Done, Memory, TargetDevice, EntropyDevice, Limit}
 use Rattle.ferry_stops.specs.Chance.{EachStop}
-use Rattle.ferry_stops.specs.Counters.{SpellsNumber}
 use Rattle.ferry_stops.specs.Tells.{lines_of}
+use Rattle.ferry_store.specs.State.{HasNumber}
 use Rattle.ferry_store.specs.Store.{OpenLeaves, RefusesOpen, WritesEach}
 use Rattle.ferry_store.specs.declared.fault.StoreRefusal.{StoreRefusal}
 
@@ -30,10 +29,7 @@ pub record OpensWith (secret : Secret) (Holds : Files → RepoState → Type 0) 
 pub record OpensNumbered (secret : Secret) (files : Files) : Type 0 where
   pub repo : RepoState
   pub opens : OpensFilesTo files secret repo
-  pub text : List ℕ
-  pub nonce : file_at files NonceFile ≡ Some text
-  pub number : ℕ
-  pub spelled : SpellsNumber text number
+  pub nonce : HasNumber files
 
 -- It is done, unless memory was refused, the target or the source of random bytes failed, a limit was met, so, or the status is one of these others.
 abbrev pub IsDoneUnless : (LimitKind → Type 0) → (Status → Type 0) → Status → Type 0
@@ -43,6 +39,27 @@ IsDoneUnless IsMet IsOther TargetDevice = Unit {0}
 IsDoneUnless IsMet IsOther EntropyDevice = Unit {0}
 IsDoneUnless IsMet IsOther (Limit limit) = IsMet limit
 IsDoneUnless IsMet IsOther status = IsOther status
+
+-- ---- a command that opens its target to be written
+
+-- A fault is one of these files, which don't open to be written.
+abbrev pub IsOfOpening : Secret → Files → CarryFault → Type 0
+IsOfOpening secret files fault = (refusal : StoreRefusal) × ((fault ≡ target_fault refusal) × RefusesOpen secret files refusal)
+
+-- A fault comes before the target is opened, or is one of its opening.
+abbrev pub ComesBefore : (CarryFault → Type 0) → Secret → Files → CarryFault → Type 0
+ComesBefore Before secret files fault = Before fault ⊎ IsOfOpening secret files fault
+
+-- The file `nonce` of the target's files has a number, or the answer is such a fault.
+abbrev pub NeedsNumber : {T : Type 0} → (CarryFault → Type 0) → Secret → Option Told → Result T CarryFault → Type 0
+NeedsNumber Before secret before result =
+    IfSome before (λ t. HasNumber (told_files t) ⊎ IsErrAnd result (ComesBefore Before secret (told_files t)))
+
+-- The same of the status of a command: where the target's file `nonce` is absent or has no number, the command isn't done, and is refused for that where it
+-- comes to the target and that opens.
+abbrev pub EndsNumbered : (CarryFault → Type 0) → Secret → Option Told → Status → Type 0
+EndsNumbered Before secret before status =
+    IfSome before (λ t. HasNumber (told_files t) ⊎ IsRefusedBy carry_status (ComesBefore Before secret (told_files t)) status)
 
 -- ---- a command that changes archives
 
@@ -67,14 +84,13 @@ LeavesAll secret Keeps before now = WhereOpened secret before (λ repo.
 -- Why nothing is changed in a run that had made no act: its target's files don't open to be written; or they open, and the command is refused so.
 abbrev pub RefusesChange : Secret → (Files → RepoState → CarryFault → Type 0) → Option Told → CarryFault → Type 0
 RefusesChange secret Refuses before fault = IfSome before (λ t. t.history.acts ≡ []
-    → ((refusal : StoreRefusal) × ((fault ≡ target_fault refusal) × RefusesOpen secret (told_files t) refusal))
-    ⊎ OpensWith secret (λ files repo. Refuses files repo fault) (told_files t))
+    → IsOfOpening secret (told_files t) fault ⊎ OpensWith secret (λ files repo. Refuses files repo fault) (told_files t))
 
 -- Archives of the target are changed. Where that isn't done, the refusal says why; where it is done in a run that had made no act, this holds of the target
 -- before and behind it. However it ends, the archives that were there are there, unchanged or changed; where it is refused, but for a device that failed and
--- want of memory, they are unchanged; where the target doesn't open, nothing is done. Whatever a stop leaves at any moment opens with the archives, unchanged
--- or changed; the counter blocks of the runs before stay apart, and none of this run's, and no number of the file `nonce`, is below the one that it began
--- with. Source and output are not used.
+-- want of memory, they are unchanged; where the target doesn't open, or has no number in the file `nonce`, it is refused, and nothing is done. Whatever a
+-- stop leaves at any moment opens with the archives, unchanged or changed; the counter blocks of the runs before stay apart, and none of this run's, and no
+-- number of the file `nonce`, is below the one that it began with. Source and output are not used.
 pub record ChangesArchives (secret : Secret) (Keeps : Files → RepoState → Bool → Files → Type 0) (Ends : History → History → Type 0)
     (Refuses : Option Told → Files → RepoState → CarryFault → Type 0) (before : Devices) (status : Status) (after : Devices) : Type 0 where
   pub source : after.source ≡ before.source
@@ -84,4 +100,5 @@ pub record ChangesArchives (secret : Secret) (Keeps : Files → RepoState → Bo
   pub left : Between before.target.told after.target.told (ChangesLeave secret Keeps)
   pub kept : is_of_work status ≡ true → Between before.target.told after.target.told (LeavesAll secret Keeps)
   pub shut : Between before.target.told after.target.told (OpenLeaves secret)
+  pub number : EndsNumbered (λ fault. ⊥) secret before.target.told status
   pub each : Between before.target.told after.target.told (ChangesEach secret Keeps)

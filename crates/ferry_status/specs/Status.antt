@@ -114,6 +114,12 @@ is_of_work (NotFound what) = true
 is_of_work (Limit limit) = true
 is_of_work status = false
 
+-- whether a status says that the target is refused, or that an archive isn't there
+abbrev pub is_unread : Status → Bool
+is_unread (TargetRefused refusal) = true
+is_unread (NotFound what) = true
+is_unread status = false
+
 -- ---- lines
 
 -- the fault line of the first wrong word

@@ -39,6 +39,7 @@ use Rattle.ferry_store.specs.Fault.{depot_failed}
 use Rattle.ferry_store.specs.Standing.{CommitsManifest, HoldsLive, entries_of}
 use Rattle.ferry_store.specs.State.{Did, HasPlaced, KeepsSound, Written, with_entry}
 use Rattle.ferry_store.specs.Store.{IsKnown, IsOfChunk, StoreFits}
+use Rattle.ferry_store.specs.Types.{ReadsSettings}
 use Rattle.ferry_store.specs.declared.content.Added.{Added}
 use Rattle.ferry_store.specs.declared.fault.StoreRefusal.{StoreRefusal}
 use Rattle.ferry_store.specs.declared.store.Store.{Store}
@@ -127,6 +128,7 @@ opened_added store repo opened content id h same noted there repo_fits counts fi
   record {
     written = fits.written;
     under_way = fits.under_way;
+    settings = subst (λ (r : RepoState). ReadsSettings fits.written.config r.config) (sym same) fits.settings;
     repo = repo_fits;
     below = subst (λ (r : RepoState). r.log.transaction < behind store.session.after) (sym same) fits.below;
     there = λ other apart known.
@@ -205,6 +207,7 @@ put_added store repo session counter pending content h g chunk missing cached af
       record {
         written = with_entry fits.written (entry_of store content);
         under_way = put.takes counts fits.written fits.under_way;
+        settings = subst (λ (r : RepoState). ReadsSettings fits.written.config r.config) (sym put.learnt) fits.settings;
         repo = subst (FitsRepo (files_now g) (repo_view repo)) (sym cached)
             (subst (λ (r : RepoState). FitsRepo (files_now g) r (cached_in store.repo)) (sym put.learnt)
             (learn_fits (files_now g) before (cached_in store.repo) id blob place missing placed.lies

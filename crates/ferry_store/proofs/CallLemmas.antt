@@ -42,14 +42,17 @@ use Rattle.ferry_store.proofs.SoundLemmas.{begin_sound, begin_stands, stands_beg
 use Rattle.ferry_store.proofs.SoundLemmas.{HasDrawn, TakesBlocks, put_same, put_sound, put_stands, draw_sound, draw_stands, commit_sound, commit_stands}
 use Rattle.ferry_store.proofs.SoundLemmas.{standing_shown}
 use Rattle.ferry_store.proofs.StepLemmas.{after_same, known_then, same_told, acts_step, acts_done, acted_step, called_step, same_step, step_done}
-use Rattle.ferry_store.proofs.StepLemmas.{did_then, did_front, did_as, known_end, first_kept, settle_settled, steps_settled, moments_map}
+use Rattle.ferry_store.proofs.StepLemmas.{did_then, did_front, did_as, did_known, known_end, first_kept, settle_settled, steps_settled, moments_map}
 use Rattle.ferry_store.proofs.StepLemmas.{moments_then, moments_here}
 use Rattle.ferry_base.specs.Limits.{zero_id}
 use Rattle.ferry_repo.specs.declared.secret.Secret.{Secret}
 use Rattle.ferry_store.proofs.NewLemmas.{opens_new}
 use Rattle.ferry_store.specs.New.{FirstSound, IsOpenable, Makes, MakesSound, ShowsNew, TakesFirst, new_entries, nothing_written}
+use Rattle.ferry_store.proofs.TypeLemmas.{IsTyped, deleted_typed, mode_drawn, types_begun}
+use Rattle.ferry_store.specs.Types.{FitsMode}
 use Rattle.ferry_store.specs.Fault.{depot_failed, nonce_refusal, write_refusal, store_refusal}
-use Rattle.ferry_store.specs.State.{Begins, BeginsSound, CommitsSound, Did, IsSound, IsStep, IsUnderWay, KeepsSound, SettingsSound, ShowsEither}
+use Rattle.ferry_store.specs.State.{BeginLeaves, Begins, BeginsSound, CommitsSound, Did, HasNumber, IsSound, IsStep, IsUnderWay, KeepsSound, SettingsSound}
+use Rattle.ferry_store.specs.State.{ShowsEither}
 use Rattle.ferry_store.specs.State.{IsPlaced, ShowsStanding, TakesCommit, TakesEntry, TakesSettings, Written, found}
 use Rattle.ferry_store.specs.State.{EndsAtCommit, RefusesLog, readme_text, with_settings}
 use Rattle.ferry_store.specs.declared.fault.StoreRefusal.{StoreRefusal}
@@ -223,15 +226,33 @@ settled_clear after h g e =
     subst (λ (x : History). settled x.acts ≡ true) (sym e) (steps_settled (with_act SettleAll true h)
     (map RemoveOf (numbers_from (behind after) (files_now h))) (settle_settled h))
 
--- a counter that was opened where something is committed has its file
-pub nonce_there : (committed : Bool) (counter : Counter) (told : Option Told)
+-- a counter that was opened where something is committed has the number of its file
+number_by : (files : Files) (free : ℕ) (file : Option (List ℕ)) → file_at files NonceFile ≡ file → IsNonce file free → (file ≡ None → ⊥) → HasNumber files
+number_by files free (Some text) is nonce there = record { text = text; nonce = is; number = free; spelled = nonce }
+number_by files free None is nonce there = absurd (there refl)
+
+number_now : (committed : Bool) (counter : Counter) (files : Files) → IsNonce (file_at files NonceFile) counter.free
+    → IsExactly (Ok counter) Nonces.Missing ((file_at files NonceFile ≡ None) × (committed ≡ true)) → committed ≡ true → HasNumber files
+number_now committed counter files nonce missing e =
+    number_by files counter.free (file_at files NonceFile) refl nonce (λ none. let found = (missing tt).1 (none, e) in let no : ⊥ = cc in no)
+
+pub number_there : (committed : Bool) (counter : Counter) (told : Option Told)
+    → IfSome told (λ t. IsNonce (file_at (told_files t) NonceFile) counter.free)
     → IfSome told (λ t. IsExactly (Ok counter) Nonces.Missing ((file_at (told_files t) NonceFile ≡ None) × (committed ≡ true)))
-    → IfSome told (λ t. committed ≡ true → IsSome (file_at (told_files t) NonceFile))
-nonce_there committed counter None missing = tt
-nonce_there committed counter (Some t) missing = λ e. by_file (file_at (told_files t) NonceFile) refl e where
-  by_file : (file : Option (List ℕ)) → file_at (told_files t) NonceFile ≡ file → committed ≡ true → IsSome file
-  by_file (Some text) is e = refl
-  by_file None is e = absurd (let found = (missing tt).1 (is, e) in let no : ⊥ = cc in no)
+    → IfSome told (λ t. committed ≡ true → HasNumber (told_files t))
+number_there committed counter None nonce missing = tt
+number_there committed counter (Some t) nonce missing = λ e. number_now committed counter (told_files t) nonce missing e
+
+-- where there is a number, whatever is done
+pub numbered_leaves : (committed : Bool) (E F : History → History → Type 0) (a b d : Option Told)
+    → IfSome a (λ t. committed ≡ true → HasNumber (told_files t)) → Between a b E → Between b d F → Between a d (BeginLeaves committed)
+numbered_leaves committed E F a b d there p q =
+    between_map a d (λ h g. (committed ≡ true → HasNumber (files_now h)) × Unit {0}) (BeginLeaves committed) (λ h g e on none. absurd (none (e.0 on)))
+    (known_then (λ h. committed ≡ true → HasNumber (files_now h)) (λ h g. Unit {0}) a d there
+    (between_then a b d E F (λ h g. Unit {0}) (λ h g i e f. tt) p q))
+
+pub unread_leaves : (committed : Bool) (a b : Option Told) → Between a b (λ h g. g ≡ h) → Between a b (BeginLeaves committed)
+unread_leaves committed a b same = between_map a b (λ h g. g ≡ h) (BeginLeaves committed) (λ h g e on none. e) same
 
 pub begun_settled : (after : Option ℕ) (session : Session) (b c : Option Told) → ClearsAbove after b c (Ok session) → failed_told c ≡ failed_told b
     → IfSome c (λ t. settled t.history.acts ≡ true)
@@ -242,6 +263,7 @@ begins_here after h counts committed begun = moments_here (IsSound (ShowsStandin
   shows = stands_begun committed h begun.no_acts (behind after, begun.shown);
   traced = traced_begun h begun.no_acts;
   numbers = numbers_begun h begun.no_acts;
+  types = types_begun h h begun.no_acts refl (λ blob known. known);
   fresh = λ e. (begun.kept e).fresh;
 })
 
@@ -453,22 +475,25 @@ put_err session entry Q fault a b n m keeps brings plain caused ends = record {
 }
 
 -- a draw and a put
-pub object_both : {T : Type 0} (session now : Session) (counter drawn : Counter) (entry : LogEntry) (number first : ℕ) (a b c : Option Told) (n m k : ℕ)
-    (result : Result T StoreRefusal) → TakesBlocks entry counter.free drawn.free → counter.free ≤ drawn.free
+pub object_both : {T : Type 0} (session now : Session) (counter drawn : Counter) (mode : Mode) (entry : LogEntry) (number first : ℕ) (a b c : Option Told)
+    (n m k : ℕ) (result : Result T StoreRefusal) → TakesBlocks entry counter.free drawn.free → counter.free ≤ drawn.free
+    → IfSome a (λ t. FitsMode t.history mode) → ((h : History) → FitsMode h mode → IsTyped entry h)
     → Did {T = ℕ} (Draws counter number) (λ _. HasNumbers counter drawn number) a b n m (Ok first)
     → Did {T = T} (PutsAt session entry) (λ _. HasPut session entry now) b c m k result
     → Did {T = T} (KeepsSound session counter) (λ _. TakesEntry session counter entry now drawn) a c n k result
-object_both session now counter drawn entry number first a b c n m k result blocks order p q =
-    did_then (Draws counter number) (λ _. HasNumbers counter drawn number) (PutsAt session entry) (λ _. HasPut session entry now)
+object_both session now counter drawn mode entry number first a b c n m k result blocks order known typed p q =
+    did_then (Draws counter number) (λ _ h g. FitsMode h mode × HasNumbers counter drawn number h g) (PutsAt session entry) (λ _. HasPut session entry now)
     (KeepsSound session counter) (λ _. TakesEntry session counter entry now drawn) a b c n m k first result
-    (λ h g i e d numbers f counts written u.
+    (λ h g i e d both f counts written u.
+    let numbers = both.1 in
     moments_then (IsSound (ShowsStanding written) counts) h g i (draw_keeps session counter number h g e counts written u) d
-    (put_sound counts session counter.free drawn written entry g i blocks
+    (put_sound counts session counter.free drawn written entry g i blocks (typed g (mode_drawn mode number h g numbers.0 both.0))
     (draw_stands counts session counter drawn written number h g u numbers.0 order numbers.1) f.0 f.1.0 f.1.1))
-    (λ y h g i numbers f counts written u.
-    put_stands counts session now counter.free drawn written entry g i blocks
+    (λ y h g i both f counts written u.
+    let numbers = both.1 in
+    put_stands counts session now counter.free drawn written entry g i blocks (typed g (mode_drawn mode number h g numbers.0 both.0))
     (draw_stands counts session counter drawn written number h g u numbers.0 order numbers.1) f.1.0 f.1.1.0 f.1.1.1.0 f.1.1.1.1 f.0)
-    p q
+    (did_known (λ h. FitsMode h mode) (Draws counter number) (λ _. HasNumbers counter drawn number) a b n m first known p) q
 
 -- a DELETE takes no block
 takes_none : (id : List ℕ) (first : ℕ) → TakesBlocks (DeleteEntry id) first first
@@ -481,7 +506,7 @@ undrawn counts session counter written h u = draw_stands counts session counter 
 
 delete_keeps : (session : Session) (counter : Counter) (id : List ℕ) (h g : History) → PutsAt session (DeleteEntry id) h g → KeepsSound session counter h g
 delete_keeps session counter id h g puts counts written u =
-    put_sound counts session counter.free counter written (DeleteEntry id) h g (takes_none id counter.free)
+    put_sound counts session counter.free counter written (DeleteEntry id) h g (takes_none id counter.free) (deleted_typed id h)
     (undrawn counts session counter written h u) puts.0 puts.1.0 puts.1.1
 
 pub delete_ok : (session now : Session) (counter : Counter) (id : List ℕ) (a b : Option Told) (n m : ℕ)
@@ -491,7 +516,7 @@ delete_ok session now counter id a b n m p =
     did_as {T = Unit {0}} {U = Unit {0}} (PutsAt session (DeleteEntry id)) (λ _. HasPut session (DeleteEntry id) now) (KeepsSound session counter)
     (λ _. TakesEntry session counter (DeleteEntry id) now counter) a b n m tt tt (delete_keeps session counter id)
     (λ h g f counts written u.
-    put_stands counts session now counter.free counter written (DeleteEntry id) h g (takes_none id counter.free)
+    put_stands counts session now counter.free counter written (DeleteEntry id) h g (takes_none id counter.free) (deleted_typed id h)
     (undrawn counts session counter written h u) f.1.0 f.1.1.0 f.1.1.1.0 f.1.1.1.1 f.0)
     p
 
@@ -612,7 +637,7 @@ none_new_shown : (secret : Secret) (counts : Bool) (h g : History) → Moments (
     → Moments (IsSound (ShowsNew secret) counts) h g
 none_new_shown secret counts h g m =
     moments_map (IsSound (λ image. Shows image None) counts) (IsSound (ShowsNew secret) counts) h g
-    (λ k s. record { shows = λ image left. inl (s.shows image left); traced = s.traced; numbers = s.numbers; fresh = s.fresh }) m
+    (λ k s. record { shows = λ image left. inl (s.shows image left); traced = s.traced; numbers = s.numbers; types = s.types; fresh = s.fresh }) m
 
 settings_first : (secret : Secret) (session : Session) (counter : Counter) (h g : History) → SettingsSound h g → FirstSound secret session counter h g
 settings_first secret session counter h g e counts config readme u =
@@ -664,6 +689,7 @@ committed_shown secret timestamp text blob readme counts h g opens m =
       shows = λ image left. new_shown secret timestamp text blob image opens (s.shows image left);
       traced = s.traced;
       numbers = s.numbers;
+      types = s.types;
       fresh = s.fresh;
     }) m
 

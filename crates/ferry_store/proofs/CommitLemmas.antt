@@ -85,6 +85,7 @@ checkpointed store session h g is takes stays counts fits =
       record {
         written = all_committed fits.written;
         under_way = takes counts fits.written u;
+        settings = fits.settings;
         repo = repo_stays after repo (cached_in store.repo) h g fits.below kept fits.repo;
         below = let order = u.fits.order in omega (arith, fits.below, order, behind_last);
         there = λ id apart known. there_kept (files_now h) (files_now g) repo repo id refl (blobs_stay after repo.log h g kept) (fits.there id apart known);

@@ -25,6 +25,7 @@ use Rattle.ferry_store.specs.Dropping.{CommitsWithout, Drops, FitsWithout, Holds
 use Rattle.ferry_store.specs.Standing.{CommitsManifest, entries_committed, entries_of, live_in, with_manifest}
 use Rattle.ferry_store.specs.State.{TakesEntry, all_committed, with_entry}
 use Rattle.ferry_store.specs.Store.{IsOfChunk, StoreFits}
+use Rattle.ferry_store.specs.Types.{ReadsSettings}
 use Rattle.ferry_store.specs.declared.store.Store.{Store}
 use Rattle.ferry_write.proofs.StandLemmas.{all-append}
 use Rattle.ferry_write.specs.Room.{behind}
@@ -37,6 +38,7 @@ pub fits_whole : (counts : Bool) (store : Store) (h : History) → StoreFits cou
 fits_whole counts store h fits = record {
   written = fits.written;
   under_way = fits.under_way;
+  settings = fits.settings;
   repo = fits.repo;
   below = fits.below;
   holds = λ id blob apart. (λ live. ((fits.holds id blob apart).1 live, refl), λ has. (fits.holds id blob apart).0 has.0);
@@ -125,6 +127,7 @@ chunk_dropped store session id h g chunk after takes stays holds counts dropped 
       record {
         written = with_entry fits.written (DeleteEntry id);
         under_way = takes counts fits.written u;
+        settings = fits.settings;
         repo = repo_stays before repo (cached_in store.repo) h g fits.below kept fits.repo;
         below = subst (λ (a : Option ℕ). repo.log.transaction < behind a) (sym after) fits.below;
         holds = subst (HoldsLess (files_now g) repo.log (dropped ++ id ∷ [])) (sym (entries_put fits.written (DeleteEntry id)))
@@ -151,6 +154,7 @@ committed_without store repo session counter accepted blob manifest h g view cac
       record {
         written = all_committed next;
         under_way = done.takes counts fits.written u;
+        settings = subst (λ (r : RepoState). ReadsSettings fits.written.config r.config) (sym view) fits.settings;
         repo = subst (FitsRepo (files_now g) (repo_view repo)) (sym cached)
             (subst (λ (r : RepoState). FitsRepo (files_now g) r (cached_in store.repo)) (sym view)
             (renew_fits (files_now g) before (cached_in store.repo) manifest

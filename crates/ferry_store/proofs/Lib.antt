@@ -8,6 +8,7 @@ pub mod LearntLemmas
 pub mod NewLemmas
 pub mod KnownLemmas
 pub mod CountingLemmas
+pub mod TypeLemmas
 pub mod SoundLemmas
 pub mod CallLemmas
 pub mod PutLemmas

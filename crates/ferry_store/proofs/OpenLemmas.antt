@@ -6,7 +6,7 @@ use Rattle.std.specs.FinMap.{get, empty, get-empty}
 use Rattle.std.specs.List.{AllByRecursion, filter}
 use Rattle.ferry_disk.proofs.FaultLemmas.{keeps_end}
 use Rattle.ferry_disk.proofs.ImageLemmas.{applied-push}
-use Rattle.ferry_disk.proofs.MomentLemmas.{between_both, between_map}
+use Rattle.ferry_disk.proofs.MomentLemmas.{between_both, between_map, between_then}
 use Rattle.ferry_disk.specs.Act.{RemoveOf, SettleAll, History, files_now, with_act}
 use Rattle.ferry_disk.specs.Device.{Told, KeepsTold, RoseWhere, told_files}
 use Rattle.ferry_disk.specs.Faults.{FailedWhere}
@@ -16,7 +16,6 @@ use Rattle.ferry_log.proofs.FitsLemmas.{fits_removed, opened_fits}
 use Rattle.ferry_log.specs.Log.{Located}
 use Rattle.ferry_log.specs.State.{LogState, FitsFiles, IsStateOf}
 use Rattle.ferry_log.specs.declared.place.Place.{Place}
-use Rattle.ferry_nonce.specs.Counter.{KeepsNumbers}
 use Rattle.ferry_nonce.specs.declared.counter.Counter.{Counter}
 use Rattle.ferry_repo.proofs.LawLemmas.{opens_fits}
 use Rattle.ferry_repo.specs.Cached.{no_contents}
@@ -37,12 +36,14 @@ use Rattle.ferry_store.proofs.LearntLemmas.{learnt_nil}
 use Rattle.ferry_store.proofs.LiveLemmas.{keeps_nil}
 use Rattle.ferry_store.proofs.SoundLemmas.{stands_begun}
 use Rattle.ferry_store.proofs.StandingLemmas.{fits_state, holds_opened, opened_manifest}
-use Rattle.ferry_store.proofs.StepLemmas.{Reads, did_also, did_as, did_front, did_known, did_then, moments_here, moments_map, read_did, same_told}
+use Rattle.ferry_store.proofs.StepLemmas.{Reads, did_also, did_as, did_front, did_known, did_then, known_then, moments_here, moments_map, read_did, same_told}
 use Rattle.ferry_store.proofs.StoreLemmas.{keeps_here, numbers_here, repo_is}
 use Rattle.ferry_store.specs.Dropping.{BareFits, FitsBare, OpenBareFits}
 use Rattle.ferry_store.specs.Fault.{depot_failed, repo_refusal}
-use Rattle.ferry_store.specs.State.{Begins, BeginsSound, Did, IsBegun, IsSound, ShowsStanding, found}
-use Rattle.ferry_store.specs.Store.{InitKeeps, NumbersOn, OpenEach, OpenFits, OpenLeaves, OpenShows}
+use Rattle.ferry_store.specs.State.{BeginLeaves, Begins, BeginsSound, Did, HasNumber, IsBegun, IsSound, ShowsStanding, found}
+use Rattle.ferry_store.proofs.TypeLemmas.{unlocked_settings}
+use Rattle.ferry_store.specs.Types.{ReadsSettings}
+use Rattle.ferry_store.specs.Store.{InitKeeps, KeepsRun, NumbersOn, OpenEach, OpenFits, OpenLeaves, OpenShows}
 use Rattle.ferry_store.specs.declared.fault.StoreRefusal.{StoreRefusal}
 use Rattle.ferry_store.specs.declared.store.Store.{Store}
 use Rattle.ferry_write.proofs.LawLemmas.{fits_now}
@@ -83,11 +84,11 @@ keeps_of log h g reads sound e kept =
     (λ k s. (record { fresh = s.fresh refl; shows = λ image left. (Some entries, (s.shows image left).0) }, s.traced))
     (sound true (Some entries) (begun_of true h log reads e (λ c. kept)))
 
--- no number is below the one that the run began with
+-- no number is below the one that the run began with, and each blob has the type of the settings
 numbers_of : (log : LogState) (h g : History) → IsStateOf (files_now h) log → BeginsSound (Some log.transaction) h g → NumbersOn h g
 numbers_of log h g reads sound e =
     let entries = entries_shown (files_now h) log reads in
-    moments_map (IsSound (ShowsStanding (found (Some entries) (files_now h))) false) KeepsNumbers h g (λ k s. s.numbers)
+    moments_map (IsSound (ShowsStanding (found (Some entries) (files_now h))) false) KeepsRun h g (λ k s. (s.numbers, s.types))
     (sound false (Some entries) (begun_of false h log reads e (λ c. absurd (let no : ⊥ = cc in no))))
 
 opens_here : (h : History) → OpenShows h h
@@ -140,9 +141,9 @@ cleared_fit state h g e clears fits =
 store_found : (counts : Bool) (store : Store) (h g : History) (reads : IsStateOf (files_now h) (repo_view store.repo).log) → cached_in store.repo ≡ no_contents
     → Begins (Some (repo_view store.repo).log.transaction) store.counter store.session h g
     → ClearsAll (Some (repo_view store.repo).log.transaction) h g → store.session.after ≡ Some (repo_view store.repo).log.transaction
-    → h.acts ≡ [] → (counts ≡ true → IsKept h)
+    → ReadsSettings (files_now h).config (repo_view store.repo).config → h.acts ≡ [] → (counts ≡ true → IsKept h)
     → (fits : FitsBare counts [] store g) × (fits.written ≡ found (Some (entries_shown (files_now h) (repo_view store.repo).log reads)) (files_now h))
-store_found counts store h g reads empty begins clears after e kept =
+store_found counts store h g reads empty begins clears after settings e kept =
     let log = (repo_view store.repo).log in
     let files = files_now g in
     let entries = entries_shown (files_now h) log reads in
@@ -154,6 +155,7 @@ store_found counts store h g reads empty begins clears after e kept =
       record {
         written = found (Some entries) (files_now h);
         under_way = u;
+        settings = settings;
         repo = subst (FitsRepo files (repo_view store.repo)) (sym empty) (record { log = fits; cached = tt; noted = tt });
         below = omega (arith, ap behind after);
         holds = λ id blob apart. (λ live. ((holds id blob apart).1 live, refl), λ has. (holds id blob apart).0 has.0);
@@ -166,10 +168,10 @@ store_found counts store h g reads empty begins clears after e kept =
 store_bare : (store : Store) (h g : History) → IsStateOf (files_now h) (repo_view store.repo).log → cached_in store.repo ≡ no_contents
     → Begins (Some (repo_view store.repo).log.transaction) store.counter store.session h g
     → ClearsAll (Some (repo_view store.repo).log.transaction) h g → store.session.after ≡ Some (repo_view store.repo).log.transaction
-    → BareFits store h g
-store_bare store h g reads empty begins clears after counts e kept =
+    → ReadsSettings (files_now h).config (repo_view store.repo).config → BareFits store h g
+store_bare store h g reads empty begins clears after settings counts e kept =
     let log = (repo_view store.repo).log in
-    let both = store_found counts store h g reads empty begins clears after e kept in
+    let both = store_found counts store h g reads empty begins clears after settings e kept in
     record {
       committed = entries_shown (files_now h) log reads;
       shown = (suc log.transaction, shown_of (files_now h) log reads);
@@ -199,6 +201,7 @@ store_opened secret store h g opens empty begins clears after none uncounted cou
       fits = record {
         written = found (Some entries) (files_now h);
         under_way = u;
+        settings = unlocked_settings (files_now h) secret repo.log repo.config repo.keys opens.opens.unlocks;
         repo = subst (FitsRepo files repo) (sym empty) (record { log = fits; cached = tt; noted = tt });
         below = omega (arith, ap behind after);
         there = λ id apart known. absurd (nothing_known store id none_learnt none apart known);
@@ -321,7 +324,10 @@ bare_ends : (secret : Secret) (store : Store) (fault : Option RepoFault) (h g : 
     → store.opened.keys ≡ [] → store.pending ≡ 0 → OpenBareFits (store, fault) h g
 bare_ends secret store None h g opens empty begins clears after none uncounted =
     store_opened secret store h g opens empty begins clears after none uncounted
-bare_ends secret store (Some fault) h g opens empty begins clears after none uncounted = store_bare store h g opens.unlocks.reads empty begins clears after
+bare_ends secret store (Some fault) h g opens empty begins clears after none uncounted =
+    let repo = repo_view store.repo in
+    store_bare store h g opens.unlocks.reads empty begins clears after
+    (unlocked_settings (files_now h) secret repo.log repo.config repo.keys opens.unlocks)
 
 pub bare_begun : (secret : Secret) (store : Store) (fault : Option RepoFault) (a b c : Option Told) (n m k : ℕ)
     → KeepsTold {T = Repo × Option RepoFault} {F = RepoFault} repo_failed a b (Ok (store.repo, fault)) → m ≡ n
@@ -343,7 +349,17 @@ bare_begun secret store fault a b c n m k same caused opens empty behind_log non
 pub same_leaves : (secret : Secret) (a b : Option Told) → Between a b (λ h g. g ≡ h) → Between a b (OpenLeaves secret)
 same_leaves secret a b same = between_map a b (λ h g. g ≡ h) (OpenLeaves secret) (λ h g e shut. e) same
 
+-- where they open, and a begin leaves them that have no number
+pub begin_leaves : (secret : Secret) (repo : RepoState) (a b d : Option Told) → IfSome a (λ t. OpensFilesTo (told_files t) secret repo)
+    → Between a b (λ h g. g ≡ h) → Between b d (BeginLeaves true) → Between a d (OpenLeaves secret)
+begin_leaves secret repo a b d opens same leaves =
+    between_then a b d (λ h g. OpensFilesTo (files_now h) secret repo × (g ≡ h)) (BeginLeaves true) (OpenLeaves secret)
+    (λ h g i e f shut.
+    let none : HasNumber (files_now g) → ⊥ = λ has. shut repo e.0 (subst (λ (k : History). HasNumber (files_now k)) e.1 has) in f refl none ∙ e.1)
+    (known_then (λ h. OpensFilesTo (files_now h) secret repo) (λ h g. g ≡ h) a b opens same) leaves
+
+-- where they open, and have a number
 pub opened_leaves : (secret : Secret) (repo : RepoState) (a d : Option Told) (E : History → History → Type 0)
-    → IfSome a (λ t. OpensFilesTo (told_files t) secret repo) → Between a d E → Between a d (OpenLeaves secret)
-opened_leaves secret repo None d E opens each = tt
-opened_leaves secret repo (Some s) d E opens each = (each.0, each.1, λ shut. absurd (shut repo opens))
+    → IfSome a (λ t. OpensFilesTo (told_files t) secret repo) → IfSome a (λ t. HasNumber (told_files t)) → Between a d E → Between a d (OpenLeaves secret)
+opened_leaves secret repo None d E opens numbered each = tt
+opened_leaves secret repo (Some s) d E opens numbered each = (each.0, each.1, λ shut. absurd (shut repo opens numbered))

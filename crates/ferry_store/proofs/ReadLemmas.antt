@@ -9,6 +9,7 @@ use Rattle.ferry_repo.specs.declared.repo.Repo.{Repo}
 use Rattle.ferry_store.specs.Content.{IsThere}
 use Rattle.ferry_store.specs.Standing.{CommitsManifest, HoldsLive, committed_of, entries_of, live_in}
 use Rattle.ferry_store.specs.Store.{IsKnown, StoreFits}
+use Rattle.ferry_store.specs.Types.{ReadsSettings}
 use Rattle.ferry_store.specs.declared.store.Store.{Store}
 use Rattle.ferry_write.specs.Room.{behind}
 
@@ -54,6 +55,7 @@ pub read_fits : (counts : Bool) (store : Store) (repo : Repo) (h : History) → 
 read_fits counts store repo h same repo_fits fits = record {
   written = fits.written;
   under_way = fits.under_way;
+  settings = subst (λ (r : RepoState). ReadsSettings fits.written.config r.config) (sym same) fits.settings;
   repo = repo_fits;
   below = subst (λ (r : RepoState). r.log.transaction < behind store.session.after) (sym same) fits.below;
   there = λ id apart known.

@@ -34,6 +34,7 @@ use Rattle.ferry_store.specs.Standing.{CommitsManifest, HoldsLive, HoldsManifest
 use Rattle.ferry_store.specs.State.{CommitsSound, Did, IsPlaced, IsSound, KeepsSound, RefusesCommit, RefusesManifest, RefusesPut, ShowsEither, TakesCommit}
 use Rattle.ferry_store.specs.State.{ShowsStanding, TakesEntry, Written, all_committed, with_entry}
 use Rattle.ferry_store.specs.Store.{IsKnown}
+use Rattle.ferry_store.specs.Types.{ReadsSettings}
 use Rattle.ferry_store.specs.declared.fault.StoreRefusal.{StoreRefusal}
 use Rattle.ferry_store.specs.declared.fault.StoreRefusal.TheVariants.{Repo as RepoRefusal, Write, Nonce, Committed, TooLarge, Entropy, Memory}
 use Rattle.ferry_store.specs.declared.store.Store.{Store}
@@ -63,7 +64,8 @@ keeps_entry : (next : RepoState) (session : Session) (counter : Counter) (entry 
     → CommitsEntry next session counter entry h g
 keeps_entry next session counter entry h g keeps counts written u =
     moments_map (IsSound (ShowsStanding written) counts) (IsSound (ShowsManifest next (with_entry written entry)) counts) h g
-    (λ k s. record { shows = λ image left. inl (s.shows image left); traced = s.traced; numbers = s.numbers; fresh = s.fresh }) (keeps counts written u)
+    (λ k s. record { shows = λ image left. inl (s.shows image left); traced = s.traced; numbers = s.numbers; types = s.types; fresh = s.fresh })
+    (keeps counts written u)
 
 entry_sound : (next : RepoState) (session put : Session) (counter drawn : Counter) (entry : LogEntry) (h g i : History)
     → HoldsEntry next entry → KeepsSound session counter h g → AllDone h g
@@ -75,6 +77,7 @@ entry_sound next session put counter drawn entry h g i held keeps done takes com
       shows = λ image left. with_held next (with_entry written entry) image (held written) (s.shows image left);
       traced = s.traced;
       numbers = s.numbers;
+      types = s.types;
       fresh = s.fresh;
     })
     (commits counts (with_entry written entry) (takes counts written u)))
@@ -230,6 +233,7 @@ store_committed store repo session counter accepted blob manifest h g view cache
       record {
         written = all_committed next;
         under_way = done.takes counts fits.written u;
+        settings = subst (λ (r : RepoState). ReadsSettings fits.written.config r.config) (sym view) fits.settings;
         repo = subst (FitsRepo (files_now g) (repo_view repo)) (sym cached)
             (subst (λ (r : RepoState). FitsRepo (files_now g) r (cached_in store.repo)) (sym view)
             (renew_fits (files_now g) before (cached_in store.repo) manifest

@@ -22,9 +22,11 @@ use Rattle.ferry_stops.specs.Counters.{IsNonce, AreApart, TakenBelow, IsAbove, I
 use Rattle.ferry_stops.specs.Entries.{Shows}
 use Rattle.ferry_store.proofs.CountingLemmas.{next_committed, next_none, next_put}
 use Rattle.ferry_store.proofs.StepLemmas.{moments_map, moments_both, moments_begin, moments_settled, step_moments}
+use Rattle.ferry_store.proofs.TypeLemmas.{IsTyped, moments_settings, settings_back, types_begun, types_kept, types_put}
 use Rattle.ferry_store.specs.Counting.{IsNext, blocks_of}
 use Rattle.ferry_store.specs.State.{AreTaken, IsUnderWay, IsSound, Written, BeginsSound, Begins, with_entry, all_committed, IsStep, ShowsEither}
 use Rattle.ferry_store.specs.State.{EndsAtCommit, ShowsStanding, found}
+use Rattle.ferry_store.specs.Types.{KeepsTypes}
 use Rattle.ferry_write.proofs.LawLemmas.{beside_fits, beside_rows, beside_blobs}
 use Rattle.ferry_write.specs.Room.{behind}
 use Rattle.ferry_write.specs.Rows.{SessionRows, BeginBrings, BringsNone, BeginsRows, Brings, KeepsRows, IsPutOf}
@@ -75,6 +77,11 @@ since_beside free step done h beside leaves counts since =
     let rest = file_left h step done leaves (ap (λ (f : PlainFate). f.perhaps) counts.at_rest) ∙ counts.at_rest in
     since_kept free h (with_act step done h) counts.file refl (λ blob. (beside_blobs h step done blob beside).0) counts.at_rest rest since
 
+-- and the types
+pub types_beside : (step : Step) (done : Bool) (h : History) → IsBeside step → KeepsTypes h → KeepsTypes (with_act step done h)
+types_beside step done h beside types =
+    types_kept h (with_act step done h) refl (settings_back h step done) (λ blob. (beside_blobs h step done blob beside).0) types
+
 -- ---- a moment as it stands
 
 -- where nothing of a file is in doubt, a stop leaves what a read gives
@@ -94,6 +101,7 @@ sound_now counts session counter written h u = record {
   shows = λ image left. (_, own_shows _ written.committed h u.fits.own image left);
   traced = u.rows.traced;
   numbers = numbers_now counter.free h u.fits.own.safe.settled_is u.counter_fits.free u.numbers;
+  types = u.types;
   fresh = λ e. fresh_by counter.free h u.fits.own.safe.settled_is u.counter_fits.free (u.taken e);
 }
 
@@ -106,6 +114,7 @@ stands_now counts session counter written h u =
       shows = λ image left. ((_, own_shows _ written.committed h u.fits.own image left), config_left h written.config image u.config is_settled left.image_is);
       traced = u.rows.traced;
       numbers = numbers_now counter.free h is_settled u.counter_fits.free u.numbers;
+      types = u.types;
       fresh = λ e. fresh_by counter.free h is_settled u.counter_fits.free (u.taken e);
     }
 
@@ -114,7 +123,7 @@ pub standing_shown : (counts : Bool) (written : Written) (h g : History) → Mom
     → Moments (IsSound (λ image. Shows image written.committed) counts) h g
 standing_shown counts written h g m =
     moments_map (IsSound (ShowsStanding written) counts) (IsSound (λ image. Shows image written.committed) counts) h g
-    (λ k s. record { shows = λ image left. (s.shows image left).0; traced = s.traced; numbers = s.numbers; fresh = s.fresh }) m
+    (λ k s. record { shows = λ image left. (s.shows image left).0; traced = s.traced; numbers = s.numbers; types = s.types; fresh = s.fresh }) m
 
 -- ---- the begin of a run
 
@@ -218,6 +227,7 @@ begin_sound after h g keeps brings plain counts committed begun =
       );
       traced = all.0.1.traced;
       numbers = numbers_later h m begun.no_acts all.1.1 all.1.0.0 (none_new h m all.0.1);
+      types = types_begun h m begun.no_acts all.1.1 (none_new h m all.0.1);
       fresh = λ e. record {
         apart = apart_as h m (none_new h m all.0.1) (begun.kept e).fresh.apart;
         above = above_later h m begun.no_acts (begun.kept e) (ap (λ (k : History). k.start) all.1.1) all.1.0.0 (none_new h m all.0.1);
@@ -299,6 +309,7 @@ begin_stands after counter session h g number opened begins rows brings plain en
       readme = (plain Readme (file_at h.start Readme) (plain_begun h Readme e)).last ∙ ap (λ (f : Files). rests_at f.readme) (sym same);
       next = next_begun counter.free committed after h g e begins_is number begun.shown;
       numbers = since_begun counter.free h g e begins_is (plain NonceFile (file_at h.start NonceFile) rest).last back number;
+      types = types_begun h g e begins_is back;
       taken = λ c. taken_later counter.free h g back (taken_begun counter.free h e (begun.kept c) number);
     }
 
@@ -355,35 +366,38 @@ pub record HasDrawn (counts : Bool) (session : Session) (first : ℕ) (counter :
   pub order : first ≤ counter.free
   pub next : IsNext first (unwrap_or written.committed [] ++ written.pending) history.start
   pub numbers : IsDrawnSince first history
+  pub types : KeepsTypes history
   pub taken : counts ≡ true → AreTaken first history
 
 pub put_sound : (counts : Bool) (session : Session) (first : ℕ) (counter : Counter) (written : Written) (entry : LogEntry) (h g : History)
-    → TakesBlocks entry first counter.free → HasDrawn counts session first counter written h → Keeps session h g → Brings session entry h g
+    → TakesBlocks entry first counter.free → IsTyped entry h → HasDrawn counts session first counter written h → Keeps session h g → Brings session entry h g
     → KeepsPlain h g → Moments (IsSound (ShowsStanding written) counts) h g
-put_sound counts session first counter written entry h g blocks u keeps brings plain =
+put_sound counts session first counter written entry h g blocks typed u keeps brings plain =
     let shows = keeps written.committed written.pending u.fits in
     let gains = brings written.committed written.pending u.fits u.rows in
     let nonce = plain NonceFile u.counter_fits.free.file u.counter_fits.free.at_rest in
     let config = plain ConfigFile written.config u.config in
     let is_settled = moments_settled _ h g u.fits.own.safe.settled_is gains in
-    let begins = moments_begin _ h g gains in
+    let begins = moments_both _ _ h g (moments_begin _ h g gains) (moments_settings _ h g gains) in
     moments_map _ (IsSound (ShowsStanding written) counts) h g (λ m all.
     let rest = counts_rest counter.free h m u.counter_fits.free all.1.0.0 in
     record {
       shows = λ image left. (all.0.0 image left, config_left m written.config image all.1.0.1 all.1.1.0 left.image_is);
       traced = all.0.1.traced;
       numbers = numbers_now counter.free m all.1.1.0 rest
-          (since_later first counter.free h m u.counter_fits.free.file all.1.1.1 u.order (gained_from first counter.free entry h m blocks.0 all.0.1)
+          (since_later first counter.free h m u.counter_fits.free.file all.1.1.1.0 u.order (gained_from first counter.free entry h m blocks.0 all.0.1)
           u.counter_fits.free.at_rest all.1.0.0 u.numbers);
+      types = types_put entry h m all.1.1.1.0 all.1.1.1.1 typed all.0.1 u.types;
       fresh = λ e. fresh_by counter.free m all.1.1.0 rest (gained_taken first counter.free entry h m u.order blocks.0 all.0.1 (u.taken e));
     })
     (moments_both _ _ h g (moments_both _ _ h g shows gains)
     (moments_both _ _ h g (moments_both _ _ h g nonce config) (moments_both _ _ h g is_settled begins)))
 
 pub put_stands : (counts : Bool) (session now : Session) (first : ℕ) (counter : Counter) (written : Written) (entry : LogEntry) (h g : History)
-    → TakesBlocks entry first counter.free → HasDrawn counts session first counter written h → Puts session now entry h g → KeepsRows session now h g
+    → TakesBlocks entry first counter.free → IsTyped entry h → HasDrawn counts session first counter written h
+    → Puts session now entry h g → KeepsRows session now h g
     → Brings session entry h g → KeepsPlain h g → EndsAtCommit now → IsUnderWay counts now counter (with_entry written entry) g
-put_stands counts session now first counter written entry h g blocks u puts rows brings plain ends = record {
+put_stands counts session now first counter written entry h g blocks typed u puts rows brings plain ends = record {
   fits = puts written.committed written.pending u.fits;
   rows = rows written.committed written.pending u.fits u.rows;
   ends = ends;
@@ -396,6 +410,9 @@ put_stands counts session now first counter written entry h g blocks u puts rows
       (moments_begin _ h g (brings written.committed written.pending u.fits u.rows)).last u.order
       (gained_from first counter.free entry h g blocks.0 (brings written.committed written.pending u.fits u.rows).last) u.counter_fits.free.at_rest
       (plain NonceFile u.counter_fits.free.file u.counter_fits.free.at_rest).last u.numbers;
+  types = types_put entry h g (moments_begin _ h g (brings written.committed written.pending u.fits u.rows)).last
+      (moments_settings _ h g (brings written.committed written.pending u.fits u.rows)).last typed
+      (brings written.committed written.pending u.fits u.rows).last u.types;
   taken = λ e. gained_taken first counter.free entry h g u.order blocks.0 (brings written.committed written.pending u.fits u.rows).last (u.taken e);
 }
 
@@ -412,6 +429,7 @@ beside_sound counts session counter written step done h beside leaves u =
       traced = (beside_rows session h step done beside u.rows).traced;
       numbers = numbers_now counter.free g fits.own.safe.settled_is counted
           (since_beside counter.free step done h beside leaves u.counter_fits.free u.numbers);
+      types = types_beside step done h beside u.types;
       fresh = λ e. fresh_by counter.free g fits.own.safe.settled_is counted
           (taken_later counter.free h g (λ blob. (beside_blobs h step done blob beside).0) (u.taken e));
     }
@@ -437,6 +455,7 @@ readme_stands counts session counter written bytes h u =
       readme = plain_next h step true Readme;
       next = u.next;
       numbers = since_beside counter.free step true h tt tt u.counter_fits.free u.numbers;
+      types = types_beside step true h tt u.types;
       taken = λ e. taken_later counter.free h g (λ blob. (beside_blobs h step true blob tt).0) (u.taken e);
     }
 
@@ -455,6 +474,7 @@ config_stands counts session counter written bytes h u =
       readme = plain_next h step true Readme ∙ u.readme;
       next = u.next;
       numbers = since_beside counter.free step true h tt tt u.counter_fits.free u.numbers;
+      types = types_beside step true h tt u.types;
       taken = λ e. taken_later counter.free h g (λ blob. (beside_blobs h step true blob tt).0) (u.taken e);
     }
 
@@ -466,27 +486,29 @@ quiet session counter written h = SessionFits session written.committed written.
 
 draw_base : (counts : Bool) (session : Session) (counter : Counter) (written : Written) (number : ℕ) (h g : History)
     → IsUnderWay counts session counter written h
-    → IsStep (reserves number) h g → Moments (λ m. quiet session counter written m × ((blob : List ℕ) → BlobOf m blob → BlobOf h blob)) h g
+    → IsStep (reserves number) h g
+    → Moments (λ m. quiet session counter written m × (((blob : List ℕ) → BlobOf m blob → BlobOf h blob) × KeepsTypes m)) h g
 draw_base counts session counter written number h g u is =
-    step_moments (λ m. quiet session counter written m × ((blob : List ℕ) → BlobOf m blob → BlobOf h blob)) (reserves number) h g
-    ((u.fits, (u.rows, u.config)), λ blob x. x)
+    step_moments (λ m. quiet session counter written m × (((blob : List ℕ) → BlobOf m blob → BlobOf h blob) × KeepsTypes m)) (reserves number) h g
+    ((u.fits, (u.rows, u.config)), (λ blob x. x, u.types))
     (λ done. (
       (
         beside_fits session written.committed written.pending h (reserves number) done tt u.fits,
         (beside_rows session h (reserves number) done tt u.rows, plain_next h (reserves number) done ConfigFile ∙ u.config),
       ),
-      λ blob. (beside_blobs h (reserves number) done blob tt).0,
+      (λ blob. (beside_blobs h (reserves number) done blob tt).0, types_beside (reserves number) done h tt u.types),
     )) is
 
 quiet_sound : (counts : Bool) (session : Session) (counter : Counter) (written : Written) (m : History) → quiet session counter written m
-    → KeepsNumbers m → (counts ≡ true → IsFresh m) → IsSound (ShowsStanding written) counts m
-quiet_sound counts session counter written m q numbers fresh = record {
+    → KeepsNumbers m → KeepsTypes m → (counts ≡ true → IsFresh m) → IsSound (ShowsStanding written) counts m
+quiet_sound counts session counter written m q numbers types fresh = record {
   shows = λ image left. (
     (_, own_shows _ written.committed m q.0.own image left),
     config_left m written.config image q.1.1 q.0.own.safe.settled_is left.image_is,
   );
   traced = q.1.0.traced;
   numbers = numbers;
+  types = types;
   fresh = fresh;
 }
 
@@ -495,13 +517,13 @@ pub draw_sound : (counts : Bool) (session : Session) (counter : Counter) (writte
     → Moments (IsSound (ShowsStanding written) counts) h g
 draw_sound false session counter written number h g u is keeps =
     moments_map _ (IsSound (ShowsStanding written) false) h g
-    (λ m q. quiet_sound false session counter written m q.0.0 q.1 (λ e. absurd (let no : ⊥ = cc in no)))
+    (λ m q. quiet_sound false session counter written m q.0.0 q.1 q.0.1.1 (λ e. absurd (let no : ⊥ = cc in no)))
     (moments_both _ _ h g (draw_base false session counter written number h g u is) ((keeps u.counter_fits.free).1 u.numbers))
 draw_sound true session counter written number h g u is keeps =
     let taken = u.taken refl in
     let kept = keeps u.counter_fits.free in
     moments_map _ (IsSound (ShowsStanding written) true) h g
-    (λ m q. quiet_sound true session counter written m q.0.0 q.1.1 (λ e. record { apart = apart_as h m q.0.1 taken.apart; above = q.1.0.above }))
+    (λ m q. quiet_sound true session counter written m q.0.0 q.1.1 q.0.1.1 (λ e. record { apart = apart_as h m q.0.1.0 taken.apart; above = q.1.0.above }))
     (moments_both _ _ h g (draw_base true session counter written number h g u is) (moments_both _ _ h g (kept.0 taken.below) (kept.1 u.numbers)))
 
 pub draw_stands : (counts : Bool) (session : Session) (counter drawn : Counter) (written : Written) (number : ℕ) (h g : History)
@@ -517,6 +539,7 @@ draw_stands counts session counter drawn written number h g u (inl e) order fits
       order = order;
       next = u.next;
       numbers = u.numbers;
+      types = u.types;
       taken = u.taken;
     })
 draw_stands counts session counter drawn written number h g u (inr e) order fits =
@@ -531,6 +554,7 @@ draw_stands counts session counter drawn written number h g u (inr e) order fits
       order = order;
       next = u.next;
       numbers = since_drawn counter.free number true h u.numbers;
+      types = types_beside step true h tt u.types;
       taken = λ c. taken_later counter.free h k (λ blob. (beside_blobs h step true blob tt).0) (u.taken c);
     })
 
@@ -549,14 +573,15 @@ commit_sound counts session counter written h g u keeps brings plain =
     let nonce = plain NonceFile u.counter_fits.free.file u.counter_fits.free.at_rest in
     let config = plain ConfigFile written.config u.config in
     let is_settled = moments_settled _ h g u.fits.own.safe.settled_is gains in
-    let begins = moments_begin _ h g gains in
+    let begins = moments_both _ _ h g (moments_begin _ h g gains) (moments_settings _ h g gains) in
     moments_map _ (IsSound (ShowsEither written) counts) h g (λ m all.
     let rest = counts_rest counter.free h m u.counter_fits.free all.1.0.0 in
     record {
       shows = λ image left. either_shown written image (config_left m written.config image all.1.0.1 all.1.1.0 left.image_is) (all.0.0 image left);
       traced = all.0.1.traced;
       numbers = numbers_now counter.free m all.1.1.0 rest
-          (since_kept counter.free h m u.counter_fits.free.file all.1.1.1 (none_new h m all.0.1) u.counter_fits.free.at_rest all.1.0.0 u.numbers);
+          (since_kept counter.free h m u.counter_fits.free.file all.1.1.1.0 (none_new h m all.0.1) u.counter_fits.free.at_rest all.1.0.0 u.numbers);
+      types = types_kept h m all.1.1.1.0 all.1.1.1.1 (none_new h m all.0.1) u.types;
       fresh = λ e. fresh_by counter.free m all.1.1.0 rest (taken_later counter.free h m (none_new h m all.0.1) (u.taken e));
     })
     (moments_both _ _ h g (moments_both _ _ h g shows gains)
@@ -578,5 +603,8 @@ commit_stands counts session now counter written h g u commits rows brings plain
       (moments_begin _ h g (brings written.committed written.pending u.fits u.rows)).last
       (none_new h g (brings written.committed written.pending u.fits u.rows).last) u.counter_fits.free.at_rest
       (plain NonceFile u.counter_fits.free.file u.counter_fits.free.at_rest).last u.numbers;
+  types = types_kept h g (moments_begin _ h g (brings written.committed written.pending u.fits u.rows)).last
+      (moments_settings _ h g (brings written.committed written.pending u.fits u.rows)).last
+      (none_new h g (brings written.committed written.pending u.fits u.rows).last) u.types;
   taken = λ e. taken_later counter.free h g (none_new h g (brings written.committed written.pending u.fits u.rows).last) (u.taken e);
 }

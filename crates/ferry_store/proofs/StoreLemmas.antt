@@ -17,7 +17,6 @@ use Rattle.ferry_disk.specs.Moments.{Between}
 use Rattle.ferry_disk.specs.declared.name.Name.TheVariants.{Config as ConfigFile, Readme}
 use Rattle.ferry_log.specs.Log.{IsUncommitted}
 use Rattle.ferry_nonce.proofs.MomentLemmas.{numbers_begun}
-use Rattle.ferry_nonce.specs.Counter.{KeepsNumbers}
 use Rattle.ferry_nonce.specs.declared.counter.Counter.{Counter}
 use Rattle.ferry_repo.proofs.LawLemmas.{opens_fits, repo_apart}
 use Rattle.ferry_repo.specs.Cached.{no_contents}
@@ -41,14 +40,20 @@ use Rattle.ferry_store.proofs.NewLemmas.{opens_new}
 use Rattle.ferry_store.proofs.SoundLemmas.{traced_begun, image_begun}
 use Rattle.ferry_store.proofs.StandingLemmas.{holds_opened, opened_manifest}
 use Rattle.ferry_store.proofs.StepLemmas.{Reads, before_same, did_as, did_front, did_known, did_then, moments_here, moments_map, read_did, same_told}
-use Rattle.ferry_store.specs.Init.{IsMadeBy, MakesOf}
+use Rattle.ferry_store.specs.Init.{IsMadeBy, MakesOf, RefusesMaking}
 use Rattle.ferry_store.specs.Fault.{depot_failed, repo_refusal}
-use Rattle.ferry_store.specs.Key.{RefusesGiven}
+use Rattle.ferry_keyblob.specs.Opening.{key_of}
+use Rattle.ferry_keyfile.specs.declared.file.KeyFile.{KeyFile}
+use Rattle.ferry_nonce.specs.declared.fault.NonceFault.TheVariants as Nonces
+use Rattle.ferry_store.specs.Key.{FitsGiven, IsGiven, RefusesGiven}
+use Rattle.ferry_store.specs.declared.key.Basis.{Basis}
 use Rattle.ferry_store.specs.declared.fault.StoreRefusal.{StoreRefusal}
 use Rattle.ferry_store.specs.declared.fault.StoreRefusal.TheVariants.{Repo as RepoRefusal, Write, Nonce, Committed, TooLarge, Entropy, Memory}
 use Rattle.ferry_store.specs.New.{IsNothingOrNew, MakesSound, OpensNew, ShowsNew, first_written, manifest_blob, new_entries}
 use Rattle.ferry_store.specs.State.{Did, IsBegun, IsSound}
-use Rattle.ferry_store.specs.Store.{HasLimit, InitEach, InitFits, InitKeeps, InitMakes, InitShows, NumbersOn, RefusesFiles, RefusesInit}
+use Rattle.ferry_store.proofs.TypeLemmas.{one_settings, types_begun, unlocked_settings}
+use Rattle.ferry_store.specs.Types.{ReadsSettings}
+use Rattle.ferry_store.specs.Store.{HasLimit, InitEach, InitFits, InitKeeps, InitMakes, InitShows, KeepsRun, NumbersOn, RefusesFiles, RefusesInit}
 use Rattle.ferry_store.specs.declared.store.Store.{Store}
 use Rattle.ferry_write.proofs.LawLemmas.{fits_now}
 use Rattle.ferry_write.specs.Room.{behind}
@@ -81,10 +86,10 @@ keeps_of secret h g none made e kept =
     (λ k s. (record { fresh = s.fresh refl; shows = λ image left. shows_something secret image (s.shows image left) }, s.traced))
     (made true (begun_by true h e none (λ c. kept))).0
 
--- no number is below the one that the run began with
+-- no number is below the one that the run began with, and each blob has the type of the settings
 numbers_of : (secret : Secret) (h g : History) → IsUncommitted (files_now h) → MakesSound secret h g → NumbersOn h g
 numbers_of secret h g none made e =
-    moments_map (IsSound (ShowsNew secret) false) KeepsNumbers h g (λ k s. s.numbers)
+    moments_map (IsSound (ShowsNew secret) false) KeepsRun h g (λ k s. (s.numbers, s.types))
     (made false (begun_by false h e none (λ c. absurd (let no : ⊥ = cc in no)))).0
 
 first_of : (secret : Secret) (h g : History) → IsUncommitted (files_now h) → MakesSound secret h g → SettlesFirst h g
@@ -100,7 +105,7 @@ pub keeps_here : (h : History) → InitKeeps h h
 keeps_here h e kept = moments_here (λ k. IsKept k × AllTraced k) h (kept, traced_begun h e)
 
 pub numbers_here : (h : History) → NumbersOn h h
-numbers_here h e = moments_here KeepsNumbers h (numbers_begun h e)
+numbers_here h e = moments_here KeepsRun h (numbers_begun h e, types_begun h h e refl (λ blob known. known))
 
 pub each_here : (secret : Secret) (h : History) → InitEach secret h h
 each_here secret h = ((shows_here secret h, λ committed. refl), (keeps_here h, (numbers_here h, first_here h)))
@@ -158,6 +163,8 @@ store_fits secret iterations timestamp bytes store h g none made opens empty uno
     record {
       written = first_written made.basis.config blob;
       under_way = u;
+      settings = subst (λ (o : Option (List ℕ)). ReadsSettings o repo.config) (config_now g _ u.config)
+          (unlocked_settings files secret repo.log repo.config repo.keys opens.opens.unlocks);
       repo = subst (FitsRepo files repo) (sym empty) (opens_fits files secret repo opens);
       below = below_commit store.session entries [] g repo.log u.fits opens.opens.unlocks.reads;
       there = λ id apart known. absurd (nothing_known store id opens.opens.unlocks.reads.learnt unopened apart known);
@@ -303,32 +310,12 @@ init_makes secret iterations timestamp bytes x a c d n k p same =
 
 -- ---- the settings of a repository that was made
 
-abbrev config_in : Config → Result UnlockedText RepoFault → Config
-config_in other (Ok text) = text.config
-config_in other (Err fault) = other
-
-with_config : (config : Config) (key : Result OpenedText RepoFault) → config_in config (unlocked_with config key) ≡ config
-with_config config (Ok text) = refl
-with_config config (Err fault) = refl
-
 -- they are those that the file `config` has
 config_is : (secret : Secret) (files : Files) (config : Config) (repo : RepoState) → files.config ≡ Some (config_text config)
     → config_of (config_text config) ≡ Ok config → OpensFilesTo files secret repo → repo.config ≡ config
-unfolding unlocked
 config_is secret files config repo at reads opens =
-    let u = opens.opens.unlocks in
-    let text : unlocked (config_text config) secret ≡ Ok (record { config = repo.config; text = record { iterations = u.iterations; key = u.key } }) =
-    subst (λ (o : Option (List ℕ)). unlocked (unwrap_or o []) secret ≡ Ok (record {
-      config = repo.config;
-      text = record { iterations = u.iterations; key = u.key };
-    }))
-    at u.unlocks in
-    let known : unlocked_where secret (Ok config) ≡ Ok (record { config = repo.config; text = record { iterations = u.iterations; key = u.key } }) =
-    subst (λ (x : Result Config ConfigFault). unlocked_where secret x ≡ Ok (record {
-      config = repo.config;
-      text = record { iterations = u.iterations; key = u.key };
-    })) reads text in
-    sym (ap (config_in config) known) ∙ with_config config (opened_key config secret)
+    one_settings repo.config config files.config (unlocked_settings files secret repo.log repo.config repo.keys opens.opens.unlocks)
+    (subst (λ (o : Option (List ℕ)). ReadsSettings o config) (sym at) reads)
 
 limit_by : (secret : Secret) (iterations : ℕ) (timestamp bytes : List ℕ) (store : Store) (h g : History) → h.acts ≡ []
     → MadeOf secret iterations timestamp bytes (store.counter, store.session) h g → OpensFilesTo (files_now g) secret (repo_view store.repo) → HasLimit store
@@ -383,3 +370,54 @@ open_refused secret iterations timestamp bytes x fault (Some t) (Some u) n k p r
     let same : u ≡ p.end.0 = (let f = p.end.1 in cc) in
     let made = makes_files secret iterations timestamp bytes x.0 x.1 t.history p.end.0.history p.end.2.1.0 p.end.2.1.1 e in
     not_refused secret timestamp (told_files t) (told_files u) fault (subst (λ (v : Told). OpensNew secret (told_files v)) (sym same) made.opens) refused
+
+-- ---- what is made of a key file comes before the rest
+
+given_fits : (secret : Secret) (given : Option Basis) → IsGiven secret given → FitsGiven secret
+given_fits secret None none (Repos.KeyFile f) refused = refused.0 none
+given_fits secret None none (Repos.Key f) refused = refused.0 none
+given_fits secret (Some basis) is (Repos.KeyFile f) refused = let e : Ok is.file ≡ Err f = sym is.reads ∙ refused.1 in let no : ⊥ = cc in no
+given_fits secret (Some basis) is (Repos.Key f) refused =
+    let file = refused.1.0 in
+    let same : file ≡ is.file = (let e : Ok file ≡ Ok is.file = sym refused.1.1 ∙ is.reads in cc) in
+    let e : Err f ≡ Ok is.key = sym refused.1.2 ∙ (ap (λ (x : KeyFile). key_of secret.passphrase x.key) same ∙ is.opens) in
+    let no : ⊥ = cc in
+    no
+given_fits secret given is Repos.NoCommit refused = refused
+given_fits secret given is (Repos.Damaged segment at) refused = refused
+given_fits secret given is (Repos.Config f) refused = refused
+given_fits secret given is (Repos.Missing id) refused = refused
+given_fits secret given is (Repos.Blob id f) refused = refused
+given_fits secret given is (Repos.Manifest f) refused = refused
+given_fits secret given is (Repos.Archive id f) refused = refused
+given_fits secret given is (Repos.Item id f) refused = refused
+given_fits secret given is (Repos.Size id) refused = refused
+given_fits secret given is (Repos.Other file config) refused = refused
+given_fits secret given is Repos.NoKey refused = refused
+given_fits secret given is Repos.Device refused = refused
+given_fits secret given is Repos.Memory refused = refused
+
+making_files : (secret : Secret) (timestamp : List ℕ) (files : Files) (refusal : StoreRefusal) → FitsGiven secret → IsUncommitted files
+    → RefusesMaking timestamp files refusal → RefusesFiles secret timestamp files refusal
+making_files secret timestamp files (RepoRefusal fault) fits none r = absurd r
+making_files secret timestamp files (Write fault) fits none r = r
+making_files secret timestamp files (Nonce Nonces.Missing) fits none r = absurd r
+making_files secret timestamp files (Nonce Nonces.Text) fits none r = (none, (fits, r))
+making_files secret timestamp files (Nonce Nonces.Exhausted) fits none r = (none, (fits, r))
+making_files secret timestamp files (Nonce Nonces.Device) fits none r = tt
+making_files secret timestamp files (Nonce Nonces.Memory) fits none r = absurd r
+making_files secret timestamp files Committed fits none r = absurd r
+making_files secret timestamp files TooLarge fits none r = (none, (fits, r))
+making_files secret timestamp files Entropy fits none r = tt
+making_files secret timestamp files Memory fits none r = tt
+
+pub making_refused : (secret : Secret) (timestamp : List ℕ) (given : Option Basis) (a b : Option Told) (refusal : StoreRefusal) → IsGiven secret given
+    → IfSome a (λ t. IsUncommitted (told_files t)) → KeepsTold {T = Unit {0}} depot_failed a b (Ok tt)
+    → IfSome b (λ t. RefusesMaking timestamp (told_files t) refusal) → IfSome a (λ t. RefusesInit secret timestamp t.history refusal)
+making_refused secret timestamp given None b refusal is none same refused = tt
+making_refused secret timestamp given (Some t) b refusal is none same refused = λ e.
+    let each = same_told {T = Unit {0}} depot_failed (Some t) b (Ok tt) same in
+    let there : RefusesMaking timestamp (files_now each.0.history) refusal =
+    subst (λ (o : Option Told). IfSome o (λ u. RefusesMaking timestamp (told_files u) refusal)) each.1 refused in
+    making_files secret timestamp (told_files t) refusal (given_fits secret given is) none
+    (subst (λ (h : History). RefusesMaking timestamp (files_now h) refusal) each.2 there)

@@ -13,7 +13,7 @@ use Rattle.ferry_repo.specs.declared.fault.RepoFault.TheVariants as Repos
 use Rattle.ferry_repo.specs.declared.secret.Secret.{Secret}
 use Rattle.ferry_store.proofs.StepLemmas.{Reads}
 use Rattle.ferry_store.specs.Fault.{repo_refusal}
-use Rattle.ferry_store.specs.State.{RefusesBegin}
+use Rattle.ferry_store.specs.State.{HasNumber, RefusesBegin}
 use Rattle.ferry_store.specs.Store.{OpensSome, OpensSomeBare, RefusesOpen, RefusesOpenBare, RefusesOpenBy}
 use Rattle.ferry_store.specs.declared.fault.StoreRefusal.{StoreRefusal}
 use Rattle.ferry_store.specs.declared.fault.StoreRefusal.TheVariants.{Repo as RepoRefusal, Write, Nonce, Committed, TooLarge, Entropy, Memory}
@@ -90,11 +90,11 @@ bare_begin_told secret repo fault refusal a b same opens is =
 
 -- ---- the counter's file
 
-pub there_told : (a b : Option Told) → Between a b Reads → IfSome b (λ t. true ≡ true → IsSome (file_at (told_files t) NonceFile))
-    → IfSome a (λ t. IsSome (file_at (told_files t) NonceFile))
+pub there_told : (a b : Option Told) → Between a b Reads → IfSome b (λ t. true ≡ true → HasNumber (told_files t))
+    → IfSome a (λ t. HasNumber (told_files t))
 there_told None b same is = tt
 there_told (Some t) None same is = absurd (let e = same.1 in let no : ⊥ = cc in no)
 there_told (Some t) (Some u) same is =
     let told : u ≡ same.0 = (let f = same.1 in cc) in
     let files : told_files u ≡ told_files t = ap told_files told ∙ ap files_now same.2 in
-    subst (λ (f : Files). IsSome (file_at f NonceFile)) files (is refl)
+    subst HasNumber files (is refl)

@@ -60,6 +60,7 @@ fits_named store now (Some t) same fits =
     (record {
       written = fits.written;
       under_way = fits.under_way;
+      settings = fits.settings;
       repo = fits.repo;
       below = fits.below;
       there = fits.there;

@@ -48,18 +48,19 @@ uncounted counts session counter written h u = record {
   readme = u.readme;
   next = u.next;
   numbers = u.numbers;
+  types = u.types;
   taken = λ c. absurd (let no : ⊥ = cc in no);
 }
 
 pub fits_writing : (counts : Bool) (store : Store) (h : History) → StoreFits counts store h → IsWriting store h
 fits_writing counts store h fits =
-    record { written = fits.written; under_way = uncounted counts store.session store.counter fits.written h fits.under_way }
+    record { written = fits.written; under_way = uncounted counts store.session store.counter fits.written h fits.under_way; settings = fits.settings }
 
 -- also where chunks were dropped
 pub without_writing : (reads counts : Bool) (dropped : List (List ℕ)) (store : Store) (h : History) → FitsLess reads counts dropped store h
     → IsWriting store h
 without_writing reads counts dropped store h fits =
-    record { written = fits.written; under_way = uncounted counts store.session store.counter fits.written h fits.under_way }
+    record { written = fits.written; under_way = uncounted counts store.session store.counter fits.written h fits.under_way; settings = fits.settings }
 
 -- what a device tells, where a store fits it
 pub told_writing : (store : Store) (a : Option Told) → IfSome a (λ t. StoreFits false store t.history) → IfSome a (λ t. IsWriting store t.history)

@@ -15,6 +15,7 @@ use Rattle.ferry_stops.specs.Counters.{IsKept}
 use Rattle.ferry_stops.specs.Entries.{Shows}
 use Rattle.ferry_store.specs.State.{IsUnderWay, Written, all_committed, found, with_entry}
 use Rattle.ferry_store.specs.Store.{IsOfChunk, OpenFits}
+use Rattle.ferry_store.specs.Types.{ReadsSettings}
 use Rattle.ferry_store.specs.declared.fault.StoreRefusal.{StoreRefusal}
 use Rattle.ferry_store.specs.declared.fault.StoreRefusal.TheVariants.{Write, Memory}
 use Rattle.ferry_store.specs.declared.store.Store.{Store}
@@ -31,12 +32,14 @@ abbrev pub HoldsLess : Files → LogState → List (List ℕ) → List LogEntry 
 HoldsLess files log dropped entries = (id blob : List ℕ) → id ≢ zero_id
     → (live_in id entries ≡ Some blob) ↔ (HasBlob files log id blob × (is_one_of id dropped ≡ false))
 
--- A store from which these chunks were dropped fits what its depot told: what was written stands, the repository fits the files and is that of a
--- commit below those of the session, its chunks but the dropped ones are those of the entries that are written, and what was put or deleted since is
--- of chunks alone. With `reads` what is committed holds its manifest, and with `counts` each counter block that was taken is below the store's counter.
+-- A store from which these chunks were dropped fits what its depot told: what was written stands, with the settings of the repository, the repository fits
+-- the files and is that of a commit below those of the session, its chunks but the dropped ones are those of the entries that are written, and what was put
+-- or deleted since is of chunks alone. With `reads` what is committed holds its manifest, and with `counts` each counter block that was taken is below the
+-- store's counter.
 pub record FitsLess (reads counts : Bool) (dropped : List (List ℕ)) (store : Store) (history : History) : Type 0 where
   pub written : Written
   pub under_way : IsUnderWay counts store.session store.counter written history
+  pub settings : ReadsSettings written.config (repo_view store.repo).config
   pub repo : FitsRepo (files_now history) (repo_view store.repo) (cached_in store.repo)
   pub below : (repo_view store.repo).log.transaction < behind store.session.after
   pub holds : HoldsLess (files_now history) (repo_view store.repo).log dropped (entries_of written)
@@ -80,10 +83,11 @@ abbrev pub OpenBareFits : Store × Option RepoFault → History → History → 
 OpenBareFits (store, None) before now = OpenFits store before now
 OpenBareFits (store, Some fault) before now = BareFits store before now
 
--- A store writes: what was written stands.
+-- A store writes: what was written stands, with the settings of the repository.
 pub record IsWriting (store : Store) (history : History) : Type 0 where
   pub written : Written
   pub under_way : IsUnderWay false store.session store.counter written history
+  pub settings : ReadsSettings written.config (repo_view store.repo).config
 
 -- Why a chunk isn't dropped: the numbers of segments are used up, or the device failed or memory was refused.
 abbrev pub RefusesDrop : Session → StoreRefusal → Type 0

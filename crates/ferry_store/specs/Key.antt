@@ -10,6 +10,7 @@ use Rattle.ferry_keyfile.specs.declared.file.KeyFile.{KeyFile}
 use Rattle.ferry_mac.specs.declared.keys.Keys.{Keys}
 use Rattle.ferry_msgpack.specs.Tree.{flag, table, pair, no_pairs}
 use Rattle.ferry_repo.specs.Opening.{opened_key}
+use Rattle.ferry_repo.specs.declared.fault.RepoFault.{RepoFault}
 use Rattle.ferry_repo.specs.declared.fault.RepoFault.TheVariants as Repos
 use Rattle.ferry_repo.specs.declared.secret.Secret.{Secret}
 use Rattle.ferry_store.specs.declared.fault.StoreRefusal.{StoreRefusal}
@@ -101,6 +102,10 @@ RefusesGiven secret (Repo (Repos.Key fault)) =
     (secret.key_file ≢ []) × ((file : KeyFile) × (key_file_of secret.key_file ≡ Ok file) × (key_of secret.passphrase file.key ≡ Err fault))
 RefusesGiven secret Memory = Unit {0}
 RefusesGiven secret refusal = ⊥
+
+-- There is none, or it reads and opens.
+abbrev pub FitsGiven : Secret → Type 0
+FitsGiven secret = (fault : RepoFault) → RefusesGiven secret (Repo fault) → ⊥
 
 -- the source of random bytes failed, or memory was refused
 abbrev pub IsFree : StoreRefusal → Type 0

@@ -1,6 +1,7 @@
 pub mod Fault
 pub mod Key
 pub mod Counting
+pub mod Types
 pub mod State
 pub mod Standing
 pub mod New

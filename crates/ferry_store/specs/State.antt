@@ -20,10 +20,11 @@ use Rattle.ferry_repo.specs.declared.fault.RepoFault.TheVariants as Repos
 use Rattle.ferry_segment.specs.Entry.{LogEntry}
 use Rattle.ferry_stops.specs.Blobs.{BlobOf, AllTraced}
 use Rattle.ferry_stops.specs.Chance.{EachStop}
-use Rattle.ferry_stops.specs.Counters.{AreApart, TakenBelow, IsFresh, IsKept}
+use Rattle.ferry_stops.specs.Counters.{AreApart, SpellsNumber, TakenBelow, IsFresh, IsKept}
 use Rattle.ferry_stops.specs.Entries.{Shows}
 use Rattle.ferry_store.specs.Counting.{IsNext}
 use Rattle.ferry_store.specs.Fault.{depot_failed}
+use Rattle.ferry_store.specs.Types.{KeepsTypes}
 use Rattle.ferry_store.specs.declared.fault.StoreRefusal.{StoreRefusal}
 use Rattle.ferry_store.specs.declared.fault.StoreRefusal.TheVariants.{Repo, Write, Nonce, Committed, TooLarge, Entropy, Memory}
 use Rattle.ferry_write.specs.Room.{must_begin, AreUsedUp}
@@ -70,7 +71,7 @@ EndsAtCommit session = session.size ≡ None → session.last ≡ session.after
 
 -- A repository is written: the session and the counter fit, a session that writes no segment ends at its commit, nothing of the plain
 -- files is in doubt, the counter is behind the number that the run began with by the blocks of the blobs that it put, none of which has a lower
--- number, and, where the blocks of the runs before count, each block that was taken is below the counter.
+-- number or another type than that of the settings, and, where the blocks of the runs before count, each block that was taken is below the counter.
 pub record IsUnderWay (counts : Bool) (session : Session) (counter : Counter) (written : Written) (history : History) : Type 0 where
   pub fits : SessionFits session written.committed written.pending history
   pub rows : SessionRows session history
@@ -80,15 +81,17 @@ pub record IsUnderWay (counts : Bool) (session : Session) (counter : Counter) (w
   pub readme : plain_in history Readme ≡ rests_at written.readme
   pub next : IsNext counter.free (unwrap_or written.committed [] ++ written.pending) history.start
   pub numbers : IsDrawnSince counter.free history
+  pub types : KeepsTypes history
   pub taken : counts ≡ true → AreTaken counter.free history
 
 -- A moment is sound: each stop shows this, each blob is traced, no block of a blob that the run put and no number that a stop leaves in the file
--- `nonce` is below the number that it began with, and, where the blocks of the runs before count, no counter block serves two blobs and the file
--- is above all that were taken.
+-- `nonce` is below the number that it began with, each blob that it put has the type of the settings, and, where the blocks of the runs before count,
+-- no counter block serves two blobs and the file is above all that were taken.
 pub record IsSound (Show : Files → Type 0) (counts : Bool) (history : History) : Type 0 where
   pub shows : EachStop Show history
   pub traced : AllTraced history
   pub numbers : KeepsNumbers history
+  pub types : KeepsTypes history
   pub fresh : counts ≡ true → IsFresh history
 
 -- what is committed is shown, with the settings as they are
@@ -202,6 +205,17 @@ abbrev pub IsTarget : StoreRefusal → Type 0
 IsTarget (Write Writes.Device) = Unit {0}
 IsTarget Memory = Unit {0}
 IsTarget refusal = ⊥
+
+-- The file `nonce` is there, and has a number.
+pub record HasNumber (files : Files) : Type 0 where
+  pub text : List ℕ
+  pub nonce : file_at files NonceFile ≡ Some text
+  pub number : ℕ
+  pub spelled : SpellsNumber text number
+
+-- Where something is committed, and the file `nonce` is absent or has no number, nothing is done.
+abbrev pub BeginLeaves : Bool → History → History → Type 0
+BeginLeaves committed before now = committed ≡ true → (HasNumber (files_now before) → ⊥) → now ≡ before
 
 -- Why what was put isn't committed: the numbers of segments are used up, or the device failed or memory was refused.
 abbrev pub RefusesCommit : Session → StoreRefusal → Type 0

@@ -23,10 +23,11 @@ use Rattle.ferry_stops.specs.Counters.{IsKept, IsNonce}
 use Rattle.ferry_stops.specs.Entries.{Shows}
 use Rattle.ferry_store.specs.Content.{IsThere}
 use Rattle.ferry_store.specs.Init.{RefusesMaking}
-use Rattle.ferry_store.specs.Key.{RefusesGiven}
+use Rattle.ferry_store.specs.Key.{FitsGiven, RefusesGiven}
 use Rattle.ferry_store.specs.New.{IsMade, IsNothingOrNew, OpensNew, first_manifest}
 use Rattle.ferry_store.specs.Standing.{CommitsManifest, HoldsLive, Keeps, committed_of, entries_of, live_in}
-use Rattle.ferry_store.specs.State.{IsUnderWay, RefusesBegin, ShowsStanding, Written, found}
+use Rattle.ferry_store.specs.State.{HasNumber, IsUnderWay, RefusesBegin, ShowsStanding, Written, found}
+use Rattle.ferry_store.specs.Types.{KeepsTypes, ReadsSettings}
 use Rattle.ferry_store.specs.declared.fault.StoreRefusal.{StoreRefusal}
 use Rattle.ferry_store.specs.declared.fault.StoreRefusal.TheVariants.{Repo, Write, Nonce, Committed, TooLarge, Entropy, Memory}
 use Rattle.ferry_store.specs.declared.store.Store.{Store}
@@ -44,13 +45,14 @@ IsOfChunk (PutEntry id blob) = id ≢ zero_id
 IsOfChunk (DeleteEntry id) = id ≢ zero_id
 IsOfChunk CommitEntry = ⊥
 
--- A store fits what its depot told: what was written stands, the repository fits the files and is that of a commit below those of the session,
--- and each chunk that the store knows is there. The repository's chunks are those of the entries that are written, what is committed holds its
--- manifest, and what was put since is of chunks alone, keeps all that is live, is learnt, and is counted, up to the largest number of 64 bits. With
+-- A store fits what its depot told: what was written stands, with the settings of the repository, the repository fits the files and is that of a commit below
+-- those of the session, and each chunk that the store knows is there. The repository's chunks are those of the entries that are written, what is committed
+-- holds its manifest, and what was put since is of chunks alone, keeps all that is live, is learnt, and is counted, up to the largest number of 64 bits. With
 -- `counts` each counter block that was taken is below the store's counter.
 pub record StoreFits (counts : Bool) (store : Store) (history : History) : Type 0 where
   pub written : Written
   pub under_way : IsUnderWay counts store.session store.counter written history
+  pub settings : ReadsSettings written.config (repo_view store.repo).config
   pub repo : FitsRepo (files_now history) (repo_view store.repo) (cached_in store.repo)
   pub below : (repo_view store.repo).log.transaction < behind store.session.after
   pub there : (id : List ℕ) → id ≢ zero_id → IsKnown store id → IsThere (files_now history) (repo_view store.repo) id
@@ -98,17 +100,20 @@ InitShows secret before now = before.acts ≡ [] → IsUncommitted (files_now be
 abbrev pub InitKeeps : History → History → Type 0
 InitKeeps before now = before.acts ≡ [] → IsKept before → Moments (λ h. IsKept h × AllTraced h) before now
 
--- At each moment of a run that had made no act, no block of a blob that it put and no number that a stop leaves in the file `nonce` is below the
--- number that it began with; and where that file was there, it is there still.
+-- No block of a blob that a run put and no number that a stop leaves in the file `nonce` is below the number that the run began with; where that file was
+-- there, it is there still; and each blob that the run put has the type of its settings.
+abbrev pub KeepsRun : History → Type 0
+KeepsRun history = KeepsNumbers history × KeepsTypes history
+
+-- That holds at each moment of a run that had made no act.
 abbrev pub NumbersOn : History → History → Type 0
-NumbersOn before now = before.acts ≡ [] → Moments KeepsNumbers before now
+NumbersOn before now = before.acts ≡ [] → Moments KeepsRun before now
 
 -- Where something is committed, nothing is done.
 abbrev pub InitLeaves : History → History → Type 0
 InitLeaves before now = (IsUncommitted (files_now before) → ⊥) → now ≡ before
 
--- At each moment of a call that writes, and at its end: this, the counter blocks of all runs, those of its own and the number in the file `nonce`, and its
--- first act.
+-- At each moment of a call that writes, and at its end: this, the counter blocks of all runs, the numbers and the types of its own blobs, and its first act.
 abbrev pub WritesEach : (History → History → Type 0) → History → History → Type 0
 WritesEach Each before now = Each before now × (InitKeeps before now × (NumbersOn before now × SettlesFirst before now))
 
@@ -116,15 +121,16 @@ WritesEach Each before now = Each before now × (InitKeeps before now × (Number
 abbrev pub InitEach : Secret → History → History → Type 0
 InitEach secret before now = WritesEach (λ h g. InitShows secret h g × InitLeaves h g) before now
 
--- Why a repository isn't made of these files. Each but `Committed`, the devices and memory says as well that nothing is committed.
+-- Why a repository isn't made of these files. Each but `Committed`, the devices and memory says as well that nothing is committed; what comes of the
+-- file `nonce` and of the manifest, that the key file isn't refused.
 abbrev pub RefusesFiles : Secret → List ℕ → Files → StoreRefusal → Type 0
 RefusesFiles secret timestamp files Committed = IsUncommitted files → ⊥
 RefusesFiles secret timestamp files (Repo Repos.Device) = Unit {0}
 RefusesFiles secret timestamp files (Repo fault) = IsUncommitted files × RefusesGiven secret (Repo fault)
 RefusesFiles secret timestamp files (Write fault) = RefusesMaking timestamp files (Write fault)
 RefusesFiles secret timestamp files (Nonce Nonces.Device) = Unit {0}
-RefusesFiles secret timestamp files (Nonce fault) = IsUncommitted files × RefusesMaking timestamp files (Nonce fault)
-RefusesFiles secret timestamp files TooLarge = IsUncommitted files × RefusesMaking timestamp files TooLarge
+RefusesFiles secret timestamp files (Nonce fault) = IsUncommitted files × (FitsGiven secret × RefusesMaking timestamp files (Nonce fault))
+RefusesFiles secret timestamp files TooLarge = IsUncommitted files × (FitsGiven secret × RefusesMaking timestamp files TooLarge)
 RefusesFiles secret timestamp files Entropy = Unit {0}
 RefusesFiles secret timestamp files Memory = Unit {0}
 
@@ -154,9 +160,10 @@ OpenFits store before now = (counts : Bool) → before.acts ≡ [] → (counts �
 abbrev pub OpenEach : History → History → Type 0
 OpenEach before now = WritesEach OpenShows before now
 
--- Where the files don't open under the secret, nothing is done.
+-- Where the files don't open under the secret, or their file `nonce` is absent or has no number, nothing is done.
 abbrev pub OpenLeaves : Secret → History → History → Type 0
-OpenLeaves secret before now = ((repo : RepoState) → OpensFilesTo (files_now before) secret repo → ⊥) → now ≡ before
+OpenLeaves secret before now =
+    ((repo : RepoState) → OpensFilesTo (files_now before) secret repo → HasNumber (files_now before) → ⊥) → now ≡ before
 
 -- Why files don't open to be written, by why their repository doesn't open to be read, and by what says that it does. `Nonce` says as well that it
 -- does.

@@ -5,7 +5,7 @@ ghost use Rattle.ferry_disk.specs.Image.{settled};
 ghost use Rattle.ferry_disk.specs.Moments.{Between};
 ghost use Rattle.ferry_manifest.specs.Manifest.Text.{manifest_view};
 ghost use Rattle.ferry_manifest.specs.Manifest.Writing.{IsPackable, manifest_text};
-ghost use Rattle.ferry_repo.specs.Opening.{repo_view};
+ghost use Rattle.ferry_repo.specs.Opening.{mode_of, repo_view};
 ghost use Rattle.ferry_stops.specs.Tells.{TellsNothing};
 ghost use Rattle.ferry_store.specs.Causes.{Stops};
 ghost use Rattle.ferry_store.specs.Commit.{CommitsEntry, HasCommitted, RefusesManifestOf, manifest_entry};
@@ -13,6 +13,7 @@ ghost use Rattle.ferry_store.specs.Fault.{depot_failed, source_failed};
 ghost use Rattle.ferry_store.specs.Limits.{BeginsFew, LeavesBoth, LimitsManifest};
 ghost use Rattle.ferry_store.specs.Standing.{with_manifest};
 ghost use Rattle.ferry_store.specs.State.{Did, KeepsSound};
+ghost use Rattle.ferry_store.specs.Types.{FitsMode};
 ghost use Rattle.ferry_store.specs.Writing.{WritesManifest};
 ghost use Rattle.ferry_store.specs.declared.fault.StoreRefusal.TheVariants as Refusal;
 ghost use Rattle.ferry_write.specs.declared.fault.WriteFault.TheVariants as Writes;
@@ -42,6 +43,7 @@ pub(crate) fn commit_manifest<D: Depot, E: Entropy>(
     requires counter { counter.old.spent ≡ false }
     requires packable { IsPackable (manifest_view manifest.now) }
     requires settled { IfSome (D.told depot.old) (λ t. settled t.history.acts ≡ true) }
+    requires mode { IfSome (D.told depot.old) (λ t. FitsMode t.history (mode_of (repo_view repo.now).config)) }
     ensures committed { (salt : List ℕ) × ((length salt ≡ 64) × OnOk result (E.drawn entropy.new ≡ option_map (λ d. d ++ salt) (E.drawn entropy.old))
         × Did (CommitsEntry (with_manifest (repo_view repo.now) (manifest_view manifest.now)) session.old counter.old
         (manifest_entry (repo_view repo.now) counter.old (manifest_view manifest.now) salt))

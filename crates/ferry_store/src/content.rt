@@ -9,7 +9,7 @@ ghost use Rattle.ferry_disk.specs.Moments.{Between};
 ghost use Rattle.ferry_log.specs.Live.{key_cmp};
 ghost use Rattle.ferry_repo.specs.Fault.{IsOfFiles, repo_failed};
 ghost use Rattle.ferry_repo.specs.Objects.{IsMissing};
-ghost use Rattle.ferry_repo.specs.Opening.{FitsRepo, cached_in, repo_view};
+ghost use Rattle.ferry_repo.specs.Opening.{FitsRepo, cached_in, mode_of, repo_view};
 ghost use Rattle.ferry_segment.specs.Entry.{PutEntry};
 ghost use Rattle.ferry_stops.specs.Tells.{TellsNothing};
 ghost use Rattle.ferry_store.specs.Causes.{Stops};
@@ -18,6 +18,7 @@ ghost use Rattle.ferry_store.specs.Fault.{depot_failed, source_failed, spends};
 ghost use Rattle.ferry_store.specs.Limits.{BeginsFew, LeavesBoth, LimitsPut};
 ghost use Rattle.ferry_store.specs.Piece.{IsPrepared, content_in};
 ghost use Rattle.ferry_store.specs.State.{Did, KeepsSound};
+ghost use Rattle.ferry_store.specs.Types.{FitsMode};
 ghost use Rattle.ferry_store.specs.Writing.{WritesMore};
 ghost use Rattle.ferry_store.specs.declared.fault.StoreRefusal.TheVariants as Refusal;
 ghost use Rattle.ferry_write.specs.declared.fault.WriteFault.TheVariants as Writes;
@@ -58,6 +59,7 @@ pub(crate) fn put_content<D: Depot>(
     requires new { IsMissing (repo_view repo.old).log id.now }
     requires prepared { IsPrepared (repo_view repo.old) id.now is_blob buffer.old }
     requires settled { IfSome (D.told depot.old) (λ t. settled t.history.acts ≡ true) }
+    requires mode { IfSome (D.told depot.old) (λ t. FitsMode t.history (mode_of (repo_view repo.old).config)) }
     ensures did { Did (KeepsSound session.old counter.old)
         (λ _. HasPut (repo_view repo.old) session.old counter.old id.now (content_in (repo_view repo.old).keys is_blob buffer.old)
         (repo_view repo.new) session.new counter.new)

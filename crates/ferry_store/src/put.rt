@@ -21,6 +21,7 @@ ghost use Rattle.ferry_store.specs.Limits.{BeginsFew, LeavesBoth, LimitsPut};
 ghost use Rattle.ferry_store.specs.New.{IsPacked, PutsManifest, first_manifest};
 ghost use Rattle.ferry_store.specs.Piece.{IsReady, content_in};
 ghost use Rattle.ferry_store.specs.State.{Did, IsPlaced, KeepsSound, RefusesManifest, RefusesPut, TakesEntry};
+ghost use Rattle.ferry_store.specs.Types.{FitsMode};
 ghost use Rattle.ferry_store.specs.Writing.{WritesMore};
 ghost use Rattle.ferry_store.specs.declared.fault.StoreRefusal.TheVariants as Refusal;
 ghost use Rattle.ferry_write.specs.Room.{AreUsedUp, after_entry, must_begin};
@@ -63,6 +64,7 @@ pub(crate) fn put_object<D: Depot>(
     requires size { length buffer.old ≤ blob_limit }
     requires ready { IsReady keys.now mode is_blob buffer.old }
     requires settled { IfSome (D.told depot.old) (λ t. settled t.history.acts ≡ true) }
+    requires mode { IfSome (D.told depot.old) (λ t. FitsMode t.history mode) }
     ensures did { Did (KeepsSound session.old counter.old)
         (λ _. TakesEntry session.old counter.old (PutEntry id.now (sealed keys.now mode counter.old.free (content_in keys.now is_blob buffer.old)))
         session.new counter.new)
@@ -179,6 +181,7 @@ pub(crate) fn put_manifest<D: Depot, E: Entropy>(
     requires session { session.old.spent ≡ false }
     requires counter { counter.old.spent ≡ false }
     requires settled { IfSome (D.told depot.old) (λ t. settled t.history.acts ≡ true) }
+    requires mode { IfSome (D.told depot.old) (λ t. FitsMode t.history (mode_of basis.now.config)) }
     ensures put { (salt : List ℕ) × ((length salt ≡ 64) × OnOk result (E.drawn entropy.new ≡ option_map (λ d. d ++ salt) (E.drawn entropy.old))
         × PutsManifest basis.now timestamp.now salt session.old counter.old session.new counter.new (D.told depot.old) (D.told depot.new)
         (D.faults depot.old) (D.faults depot.new) result) }

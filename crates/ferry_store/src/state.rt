@@ -1,5 +1,5 @@
 //! The first steps of a repository that is made: what is there already, and the files beside the segments.
-ghost use Rattle.std.specs.Prelude.{◌≡◌, ◌≢◌, ◌↔◌, ℕ, true, false, Ok, IfOk, IfErr, IfSome, IsErrOf, IsSome, OnOk};
+ghost use Rattle.std.specs.Prelude.{◌≡◌, ◌≢◌, ◌↔◌, ℕ, true, false, Ok, IfOk, IfErr, IfSome, IsErrOf, OnOk};
 ghost use Rattle.ferry_config.specs.Config.{config_of};
 ghost use Rattle.ferry_config.specs.Text.{config_text};
 ghost use Rattle.ferry_disk.specs.Act.{IsPlain, ReplaceBy, with_act};
@@ -9,13 +9,15 @@ ghost use Rattle.ferry_disk.specs.Image.{settled};
 ghost use Rattle.ferry_disk.specs.Moments.{Between};
 ghost use Rattle.ferry_disk.specs.declared.name.Name.TheVariants as FileName;
 ghost use Rattle.ferry_log.specs.Log.{IsUncommitted};
+ghost use Rattle.ferry_repo.specs.Opening.{mode_of};
 ghost use Rattle.ferry_stops.specs.Counters.{IsNonce};
 ghost use Rattle.ferry_stops.specs.Tells.{TellsNothing};
 ghost use Rattle.ferry_store.specs.Causes.{Stops};
 ghost use Rattle.ferry_store.specs.Fault.{depot_failed, source_failed};
 ghost use Rattle.ferry_store.specs.Limits.{BeginsFew};
-ghost use Rattle.ferry_store.specs.State.{Begins, BeginsSound, CommitsSound, Did, IsFirst, IsStep, IsTarget};
+ghost use Rattle.ferry_store.specs.State.{BeginLeaves, Begins, BeginsSound, CommitsSound, Did, HasNumber, IsFirst, IsStep, IsTarget};
 ghost use Rattle.ferry_store.specs.State.{RefusesBegin, RefusesCommit, RefusesLog, SettingsSound, TakesCommit, TakesSettings};
+ghost use Rattle.ferry_store.specs.Types.{FitsMode};
 ghost use Rattle.ferry_store.specs.Writing.{WritesCommit};
 ghost use Rattle.ferry_nonce.specs.declared.counter.Counter.{Counter};
 ghost use Rattle.ferry_store.specs.declared.fault.StoreRefusal.TheVariants as Refusal;
@@ -64,8 +66,10 @@ pub(crate) fn begin_at<D: Depot>(
     ensures did { Did (BeginsSound after) (λ b. Begins after b.0 b.1) (D.told depot.old) (D.told depot.new) (D.faults depot.old) (D.faults depot.new)
         result }
     ensures number { IfOk result (λ b. IfSome (D.told depot.old) (λ t. IsNonce (file_at (told_files t) FileName.Nonce) b.0.free)) }
-    // Where something is committed, the file `nonce` is there.
-    ensures there { OnOk result (IfSome (D.told depot.old) (λ t. committed ≡ true → IsSome (file_at (told_files t) FileName.Nonce))) }
+    // Where something is committed, the file `nonce` is there and has a number.
+    ensures there { OnOk result (IfSome (D.told depot.old) (λ t. committed ≡ true → HasNumber (told_files t))) }
+    // Where it isn't, or has none, nothing is done.
+    ensures leaves { Between (D.told depot.old) (D.told depot.new) (BeginLeaves committed) }
     ensures fresh { IfOk result (λ b. IsFirst after limit b.0 b.1) }
     ensures settled { OnOk result (IfSome (D.told depot.new) (λ t. settled t.history.acts ≡ true)) }
     ensures first { Between (D.told depot.old) (D.told depot.new) SettlesFirst }
@@ -104,6 +108,8 @@ pub(crate) fn replace_settings<D: Depot>(
         result }
     ensures untold { Between (D.told depot.old) (D.told depot.new) TellsNothing }
     ensures read_again { OnOk result (config_of (config_text config.now) ≡ Ok config.now) }
+    // The settings of the run are these, if any are.
+    ensures mode { OnOk result (IfSome (D.told depot.new) (λ t. FitsMode t.history (mode_of config.now))) }
     ensures refused { IfErr result IsTarget }
 {
     let text = print_config(alloc, config)?;

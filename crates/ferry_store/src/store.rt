@@ -28,7 +28,7 @@ ghost use Rattle.ferry_store.specs.Fault.{depot_failed, source_failed, spends};
 ghost use Rattle.ferry_store.specs.Limits.{BeginsFew, LeavesBoth, LimitsManifest, LimitsPut};
 ghost use Rattle.ferry_store.specs.Standing.{with_manifest};
 ghost use Rattle.ferry_store.specs.Piece.{HasSize, IsPrepared, Prepares, content_in};
-ghost use Rattle.ferry_store.specs.State.{CommitsSound, Did, KeepsSound, RefusesCommit};
+ghost use Rattle.ferry_store.specs.State.{CommitsSound, Did, HasNumber, KeepsSound, RefusesCommit};
 ghost use Rattle.ferry_store.specs.Store.{HasLimit, InitEach, InitFits, InitMakes, IsKnown, IsUnspent};
 ghost use Rattle.ferry_store.specs.Store.{OpenEach, OpenFits, OpenLeaves, RefusesInit, RefusesOpen, StoreFits};
 ghost use Rattle.ferry_store.specs.Store.{RefusesOpenBare};
@@ -151,11 +151,11 @@ impl Store {
     ) -> Result<Store, StoreRefusal>
         // The files open under the secret to the repository of the store.
         ensures opened { IfOk result (λ store. IfSome (D.told depot.old) (λ t. OpensFilesTo (told_files t) secret.now (repo_view store.repo))) }
-        // The file `nonce` is there: a lost one isn't taken for the number 0.
-        ensures numbered { OnOk result (IfSome (D.told depot.old) (λ t. IsSome (file_at (told_files t) FileName.Nonce))) }
+        // The file `nonce` is there and has a number: a lost one isn't taken for the number 0.
+        ensures numbered { OnOk result (IfSome (D.told depot.old) (λ t. HasNumber (told_files t))) }
         // Each stop shows what is committed, with the settings as they are, and counter blocks are kept; the store fits with what was committed.
         ensures did { Did OpenEach OpenFits (D.told depot.old) (D.told depot.new) (D.faults depot.old) (D.faults depot.new) result }
-        // Where the files don't open, nothing is done.
+        // Where the files don't open, or there is no such number, nothing is done.
         ensures kept { Between (D.told depot.old) (D.told depot.new) (OpenLeaves secret.now) }
         // No line is told, also by a call that fails.
         ensures untold { Between (D.told depot.old) (D.told depot.new) TellsNothing }
@@ -201,8 +201,8 @@ impl Store {
     ) -> Result<(Store, Option<RepoFault>), StoreRefusal>
         // The files open under the secret to the repository of the store, or all of it but its manifest does, which is refused so.
         ensures opened { IfOk result (λ both. IfSome (D.told depot.old) (λ t. OpensBare (told_files t) secret.now (repo_view both.0.repo) both.1)) }
-        // The file `nonce` is there.
-        ensures numbered { OnOk result (IfSome (D.told depot.old) (λ t. IsSome (file_at (told_files t) FileName.Nonce))) }
+        // The file `nonce` is there and has a number.
+        ensures numbered { OnOk result (IfSome (D.told depot.old) (λ t. HasNumber (told_files t))) }
         // As of `open`; beside a fault the store fits whatever is committed as its manifest.
         ensures did { Did OpenEach OpenBareFits (D.told depot.old) (D.told depot.new) (D.faults depot.old) (D.faults depot.new) result }
         ensures untold { Between (D.told depot.old) (D.told depot.new) TellsNothing }

@@ -26,7 +26,7 @@ use Rattle.ferry_repo.specs.declared.secret.Secret.{Secret}
 use Rattle.ferry_run_compact.specs.Compact.{CompactEach, KeepsObjects}
 use Rattle.ferry_run_delete.proofs.ShowLemmas.{DeleteEach, Deletion, deletion}
 use Rattle.ferry_run_tag.proofs.ShowLemmas.{TagEach, Tagging, tagging}
-use Rattle.ferry_run_transfer.specs.Rerun.{HasNumber}
+use Rattle.ferry_store.specs.State.{HasNumber}
 use Rattle.ferry_run_transfer.specs.Transfer.{Request, TransferEach, asked}
 use Rattle.ferry_segment.specs.Entry.{LogEntry, PutEntry, DeleteEntry, CommitEntry}
 use Rattle.ferry_status.proofs.LeftLemmas.{now_left}
@@ -41,7 +41,7 @@ use Rattle.ferry_stops.specs.Counters.{IsAbove, IsKept, IsNonce}
 use Rattle.ferry_store.proofs.StandingLemmas.{opened_unlocks}
 use Rattle.ferry_store.proofs.StepLemmas.{moments_begin, moments_both, moments_here, moments_map}
 use Rattle.ferry_store.specs.Standing.{UnlocksSettings}
-use Rattle.ferry_store.specs.Store.{OpensSome}
+use Rattle.ferry_store.specs.Store.{KeepsRun, OpensSome}
 use Rattle.ferry_top.specs.Following.{AreLeft, CanGoOn, IsRunOf, Leaves, MayBegin, Writes, ended, made, stopped, unmade}
 use Rattle.ferry_top.specs.Init.{CommandEach}
 use Rattle.ferry_top.specs.Run.{DoesCommand}
@@ -137,6 +137,12 @@ goes_on secret before now kept numbers opens =
     (moments_both (λ h. Kept h × KeepsNumbers h) (λ h. Opens h × Begins h) before now (moments_both Kept KeepsNumbers before now kept numbers)
     (moments_both Opens Begins before now opens (moments_begin Opens before now opens)))
 
+-- of a run that keeps the types of its blobs too
+runs_on : (secret : Secret) (before now : History) → Moments (λ h. IsKept h × AllTraced h) before now → Moments KeepsRun before now
+    → Moments (EachStop (CanOpen secret)) before now → Moments (Goes secret before) before now
+runs_on secret before now kept keeps opens =
+    goes_on secret before now kept (moments_map KeepsRun KeepsNumbers before now (λ h both. both.0) keeps) opens
+
 -- the number that a target has with which one can go on
 some_number : (secret : Secret) (files : Files) → CanGoOn secret files → (number : ℕ) × IsNonce files.nonce number
 some_number secret files (unmade number uncommitted is) = (number, is)
@@ -197,21 +203,21 @@ GoesOn secret before now = Moments (Goes secret before) before now
 transfer_goes : (request : Request) (before now : History) → before.acts ≡ [] → IsKept before → OpensSome (files_now before) request.secrets.target
     → TransferEach request before now → GoesOn request.secrets.target before now
 transfer_goes request before now begun kept opens each =
-    goes_on request.secrets.target before now (each.1.0 begun kept) (each.1.1.0 begun)
+    runs_on request.secrets.target before now (each.1.0 begun kept) (each.1.1.0 begun)
     (moments_map _ (EachStop (CanOpen request.secrets.target)) before now
     (λ h shows image left. let keeps = shows image left in inr (keeps.repo, keeps.opens)) (each.0 begun opens.0 opens.1))
 
 delete_goes : (asked : Deletion) (before now : History) → before.acts ≡ [] → IsKept before → OpensSome (files_now before) asked.secret
     → DeleteEach asked before now → GoesOn asked.secret before now
 delete_goes asked before now begun kept opens each =
-    goes_on asked.secret before now (each.1.0 begun kept) (each.1.1.0 begun)
+    runs_on asked.secret before now (each.1.0 begun kept) (each.1.1.0 begun)
     (moments_map _ (EachStop (CanOpen asked.secret)) before now
     (λ h shows image left. let keeps = shows image left in inr (keeps.1.repo, keeps.1.opens)) (each.0 begun opens.0 opens.1))
 
 tag_goes : (asked : Tagging) (before now : History) → before.acts ≡ [] → IsKept before → OpensSome (files_now before) asked.secret
     → TagEach asked before now → GoesOn asked.secret before now
 tag_goes asked before now begun kept opens each =
-    goes_on asked.secret before now (each.1.0 begun kept) (each.1.1.0 begun)
+    runs_on asked.secret before now (each.1.0 begun kept) (each.1.1.0 begun)
     (moments_map _ (EachStop (CanOpen asked.secret)) before now
     (λ h shows image left. let keeps = shows image left in inr (keeps.1.repo, keeps.1.opens)) (each.0 begun opens.0 opens.1))
 
@@ -247,7 +253,7 @@ init_opens secret before now may each (made repo opens has) =
 
 init_goes : (secret : Secret) (before now : History) → MayBegin secret before → CommandEach secret before now → GoesOn secret before now
 init_goes secret before now may each =
-    goes_on secret before now (each.1.0 may.begun may.kept) (each.1.1.0 may.begun) (init_opens secret before now may each may.target)
+    runs_on secret before now (each.1.0 may.begun may.kept) (each.1.1.0 may.begun) (init_opens secret before now may each may.target)
 
 -- ---- a run
 

@@ -371,13 +371,13 @@ ready_refused secret timestamp files (Store.Repo fault) ready r = ready_given se
 ready_refused secret timestamp files (Store.Write Writes.Device) ready r = inr (inl refl)
 ready_refused secret timestamp files (Store.Write Writes.Memory) ready r = inl refl
 ready_refused secret timestamp files (Store.Write Writes.Numbers) ready r = absurd r
-ready_refused secret timestamp files (Store.Nonce Nonces.Missing) ready r = absurd r.1
-ready_refused secret timestamp files (Store.Nonce Nonces.Text) ready r = absurd (ready.nonce r.1)
-ready_refused secret timestamp files (Store.Nonce Nonces.Exhausted) ready r = absurd (ready.blocks r.1)
+ready_refused secret timestamp files (Store.Nonce Nonces.Missing) ready r = absurd r.1.1
+ready_refused secret timestamp files (Store.Nonce Nonces.Text) ready r = absurd (ready.nonce r.1.1)
+ready_refused secret timestamp files (Store.Nonce Nonces.Exhausted) ready r = absurd (ready.blocks r.1.1)
 ready_refused secret timestamp files (Store.Nonce Nonces.Device) ready r = inr (inl refl)
 ready_refused secret timestamp files (Store.Nonce Nonces.Memory) ready r = inl refl
 ready_refused secret timestamp files Store.Committed ready r = absurd (r ready.uncommitted)
-ready_refused secret timestamp files Store.TooLarge ready r = absurd (ready.fits r.1)
+ready_refused secret timestamp files Store.TooLarge ready r = absurd (ready.fits r.1.1)
 ready_refused secret timestamp files Store.Entropy ready r = inr (inr refl)
 ready_refused secret timestamp files Store.Memory ready r = inl refl
 

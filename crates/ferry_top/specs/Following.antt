@@ -7,7 +7,7 @@ use Rattle.ferry_disk.specs.Moments.{IsMoment}
 use Rattle.ferry_log.specs.Log.{IsUncommitted}
 use Rattle.ferry_repo.specs.Opening.{OpensFilesTo, RepoState}
 use Rattle.ferry_repo.specs.declared.secret.Secret.{Secret}
-use Rattle.ferry_run_transfer.specs.Rerun.{HasNumber}
+use Rattle.ferry_store.specs.State.{HasNumber}
 use Rattle.ferry_status.specs.Devices.{Devices}
 use Rattle.ferry_status.specs.declared.status.Secrets.{Secrets}
 use Rattle.ferry_status.specs.declared.status.Status.{Status}

@@ -7,15 +7,13 @@ use Rattle.ferry_disk.specs.Moments.{Between, Moments}
 use Rattle.ferry_disk.specs.declared.name.Name.TheVariants.{Nonce as NonceFile}
 use Rattle.ferry_log.specs.Log.{IsUncommitted}
 use Rattle.ferry_nonce.specs.Counter.{HasNoNumber}
-use Rattle.ferry_repo.specs.declared.fault.RepoFault.{RepoFault}
 use Rattle.ferry_repo.specs.declared.secret.Secret.{Secret}
 use Rattle.ferry_stops.specs.Chance.{EachStop}
 use Rattle.ferry_stops.specs.Tells.{lines_of}
 use Rattle.ferry_store.specs.Init.{HasNoBlocks, IsTooLarge}
-use Rattle.ferry_store.specs.Key.{RefusesGiven}
+use Rattle.ferry_store.specs.Key.{FitsGiven}
 use Rattle.ferry_store.specs.New.{IsNothingOrNew, OpensNew}
 use Rattle.ferry_store.specs.Store.{InitLeaves, MakesFiles, RefusesInit, WritesEach}
-use Rattle.ferry_store.specs.declared.fault.StoreRefusal.TheVariants.{Repo}
 use Rattle.ferry_status.specs.Devices.{Devices, IsRefusedBy}
 use Rattle.ferry_status.specs.Status.{store_status, target_failed, entropy_failed}
 use Rattle.ferry_status.specs.declared.status.Status.{Status}
@@ -70,7 +68,7 @@ pub record MakesRepository (secret : Secret) (iterations : ℕ) (timestamp : Lis
 -- a number behind which the blocks of the manifest are left, which isn't too large.
 pub record IsReady (secret : Secret) (timestamp : List ℕ) (files : Files) : Type 0 where
   pub uncommitted : IsUncommitted files
-  pub key : (fault : RepoFault) → RefusesGiven secret (Repo fault) → ⊥
+  pub key : FitsGiven secret
   pub nonce : HasNoNumber (file_at files NonceFile) → ⊥
   pub blocks : HasNoBlocks timestamp files → ⊥
   pub fits : IsTooLarge timestamp → ⊥

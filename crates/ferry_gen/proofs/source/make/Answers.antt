@@ -9,6 +9,6 @@ returns-clause-made g c =
 
 pub returns-clause-plain : goal.returns-clause-plain
 returns-clause-plain g c =
-    plain_made c.make_archives.result c.args.count c.make_archives.new.store (g.D.Shelf.told c.make_archives.new.depot) c.requires.most
+    plain_made c.make_archives.result c.args.count c.make_archives.new.store (g.D.Shelf.told c.make_archives.new.depot) c.requires.least c.requires.most
     c.make_archives.ensures.fits
     c.make_archives.ensures.settled c.make_archives.ensures.pending c.make_archives.ensures.made

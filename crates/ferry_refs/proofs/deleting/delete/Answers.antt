@@ -2,11 +2,12 @@ use Rattle.std.proofs.Common.{rules, ◌≡◌, ℕ, length, List, Result, Ok, E
 use Rattle.std.specs.Option.{option_copied}
 use Rattle.ferry_disk.specs.Moments.{Between}
 use Rattle.ferry_piece.proofs.WorkLemmas.{err_is}
-use Rattle.ferry_piece.specs.Fault.{IsOfWork, target_fault}
+use Rattle.ferry_piece.specs.Fault.{IsOfReading, IsOfWork, target_fault}
 use Rattle.ferry_piece.specs.Work.{Works}
 use Rattle.ferry_piece.specs.declared.fault.CarryFault.{CarryFault}
 use Rattle.ferry_piece.specs.declared.fault.CarryFault.TheVariants as Carry
 use Rattle.ferry_refs.proofs.DeleteLemmas.{all_read, delete_refused, did_at, keeps_behind, works_done, works_here, works_memory, works_undone, works_unread}
+use Rattle.ferry_refs.proofs.DeleteLemmas.{told_never, writing_never}
 use Rattle.ferry_refs.proofs.DropLemmas.{leaves_here, untold_then}
 use Rattle.ferry_refs.proofs.deleting.delete.Goals as goal
 use Rattle.ferry_check.specs.Verify.{IsNamed}
@@ -187,3 +188,42 @@ returns-in_err-delete_with-clause-refused g c =
     (λ (r : Result ℕ CarryFault). IfErr r (λ (f : CarryFault). IfSome a (λ t. RefusesDelete (told_files t) repo name time d f)))
     c.from_residual-in_err-delete_with.ensures.1
     (delete_refused a d repo name time named refusal (all_read store read name ids a b read_ids.end) refused stops)
+
+pub returns-in_err-from_slice-clause-unwritten : goal.returns-in_err-from_slice-clause-unwritten
+returns-in_err-from_slice-clause-unwritten g c =
+    let a = g.D.Shelf.told c.args.depot.now in
+    err_is c.from_residual.result Carry.Memory (λ (r : Result ℕ CarryFault). IfErr r (λ (f : CarryFault). IsOfReading f → Between a a (λ h g. g ≡ h)))
+    c.from_residual.ensures.1 (λ of. absurd of)
+
+pub returns-then-not-has-clause-unwritten : goal.returns-then-not-has-clause-unwritten
+returns-then-not-has-clause-unwritten g c of = here_each (λ h g. g ≡ h) (g.D.Shelf.told c.args.depot.now) (λ h. refl)
+
+pub returns-in_err-going-clause-unwritten : goal.returns-in_err-going-clause-unwritten
+returns-in_err-going-clause-unwritten g c =
+    let a = g.D.Shelf.told c.args.depot.now in
+    let b = g.D.Shelf.told c.read_going.new.depot in
+    err_is c.from_residual-in_err-going.result (target_fault c.in_err-going.field-0.0)
+    (λ (r : Result ℕ CarryFault). IfErr r (λ (f : CarryFault). IsOfReading f → Between a b (λ h g. g ≡ h)))
+    c.from_residual-in_err-going.ensures.1 (λ of. c.in_err-going.ensures.same)
+
+pub returns-in_err-time-clause-unwritten : goal.returns-in_err-time-clause-unwritten
+returns-in_err-time-clause-unwritten g c =
+    let a = g.D.Shelf.told c.args.depot.now in
+    let b = g.D.Shelf.told c.read_going.new.depot in
+    err_is c.from_residual-in_err-time.result Carry.Memory
+    (λ (r : Result ℕ CarryFault). IfErr r (λ (f : CarryFault). IsOfReading f → Between a b (λ h g. g ≡ h)))
+    c.from_residual-in_err-time.ensures.1 (λ of. absurd of)
+
+pub returns-in_err-delete_with-clause-unwritten : goal.returns-in_err-delete_with-clause-unwritten
+returns-in_err-delete_with-clause-unwritten g c =
+    let a = g.D.Shelf.told c.args.depot.now in
+    let b = g.D.Shelf.told c.read_going.new.depot in
+    let d = g.D.Shelf.told c.delete_with.new.depot in
+    let read = c.read_going.new.store in
+    let refusal = c.in_err-delete_with.field-0.0 in
+    err_is c.from_residual-in_err-delete_with.result (target_fault refusal)
+    (λ (r : Result ℕ CarryFault). IfErr r (λ (f : CarryFault). IsOfReading f → Between a d (λ h g. g ≡ h)))
+    c.from_residual-in_err-delete_with.ensures.1
+    (λ of. told_never TellsNothing (λ h g. g ≡ h) a b d c.in_ok-going.ensures.untold c.in_err-delete_with.ensures.untold
+    (writing_never (repo_view read.repo) c.args.name.now c.deref.result.now (repo_view read.repo).keys d refusal c.in_err-delete_with.ensures.refused
+    c.in_err-delete_with.ensures.stops of))

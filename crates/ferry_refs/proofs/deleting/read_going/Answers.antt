@@ -1,7 +1,8 @@
+use Rattle.ferry_repo.specs.Fault.{repo_failed}
 use Rattle.std.proofs.Common.{Global, List, Result, Vec, ℕ, ◌∙◌, ap, subst, IfErr, IfSome}
 use Rattle.ferry_disk.specs.Device.{told_files}
 use Rattle.ferry_repo.specs.Opening.{RepoState, repo_view}
-use Rattle.ferry_store.proofs.StepLemmas.{err_is}
+use Rattle.ferry_store.proofs.StepLemmas.{err_is, same_told}
 use Rattle.ferry_store.specs.Fault.{repo_refusal}
 use Rattle.ferry_store.specs.State.{Did}
 use Rattle.ferry_store.specs.declared.fault.StoreRefusal.{StoreRefusal}
@@ -62,3 +63,13 @@ pub returns-clause-fits : goal.returns-clause-fits
 returns-clause-fits g c =
     fits_then {T = Vec (List ℕ) Global} c.args.store.now c.going_ids.new.repo (g.D.Shelf.told c.args.depot.now) (g.D.Shelf.told c.going_ids.new.shelf)
     c.going_ids.result (c.going_ids.ensures.kept ∙ ap repo_view c.repo.ensures.repo) c.going_ids.ensures.same c.going_ids.ensures.fits c.requires.fits
+
+pub returns-in_err-going-clause-same : goal.returns-in_err-going-clause-same
+returns-in_err-going-clause-same g c =
+    same_told {T = Vec (List ℕ) Global} repo_failed (g.D.Shelf.told c.args.depot.now) (g.D.Shelf.told c.going_ids.new.shelf) c.going_ids.result
+    c.going_ids.ensures.same
+
+pub returns-clause-same : goal.returns-clause-same
+returns-clause-same g c =
+    same_told {T = Vec (List ℕ) Global} repo_failed (g.D.Shelf.told c.args.depot.now) (g.D.Shelf.told c.going_ids.new.shelf) c.going_ids.result
+    c.going_ids.ensures.same

@@ -1,7 +1,8 @@
+use Rattle.ferry_repo.specs.Fault.{repo_failed}
 use Rattle.std.proofs.Common.{Result, IfErr, IfSome, ◌∙◌, ap, subst}
 use Rattle.ferry_disk.specs.Device.{told_files}
 use Rattle.ferry_repo.specs.Opening.{RepoState, repo_view}
-use Rattle.ferry_store.proofs.StepLemmas.{err_is}
+use Rattle.ferry_store.proofs.StepLemmas.{err_is, same_told}
 use Rattle.ferry_store.specs.Fault.{repo_refusal}
 use Rattle.ferry_store.specs.State.{Did}
 use Rattle.ferry_store.specs.declared.fault.StoreRefusal.{StoreRefusal}
@@ -65,3 +66,13 @@ pub returns-clause-fits : goal.returns-clause-fits
 returns-clause-fits g c =
     fits_then {T = OldRecords} c.args.store.now c.old_records.new.repo (g.D.Shelf.told c.args.depot.now) (g.D.Shelf.told c.old_records.new.shelf)
     c.old_records.result (c.old_records.ensures.kept ∙ ap repo_view c.repo.ensures.repo) c.old_records.ensures.same c.old_records.ensures.fits c.requires.fits
+
+pub returns-in_err-old-clause-same : goal.returns-in_err-old-clause-same
+returns-in_err-old-clause-same g c =
+    same_told {T = OldRecords} repo_failed (g.D.Shelf.told c.args.depot.now) (g.D.Shelf.told c.old_records.new.shelf) c.old_records.result
+    c.old_records.ensures.same
+
+pub returns-clause-same : goal.returns-clause-same
+returns-clause-same g c =
+    same_told {T = OldRecords} repo_failed (g.D.Shelf.told c.args.depot.now) (g.D.Shelf.told c.old_records.new.shelf) c.old_records.result
+    c.old_records.ensures.same

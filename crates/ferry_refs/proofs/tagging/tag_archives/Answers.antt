@@ -1,4 +1,4 @@
-use Rattle.std.proofs.Common.{rules, ◌≡◌, ℕ, List, length, eqb-true, Result, Ok, Err, IfErr, IfSome, refl, sym, ◌∙◌, ap, subst}
+use Rattle.std.proofs.Common.{rules, ◌≡◌, ℕ, List, length, eqb-true, Result, Ok, Err, IfErr, IfSome, refl, sym, ◌∙◌, ap, subst, ◌⊎◌, inl}
 use Rattle.std.proofs.lemmas.List.{length-map}
 use Rattle.std.specs.Option.{option_copied}
 use Rattle.std.specs.Vec.{vec_len}
@@ -6,18 +6,18 @@ use Rattle.ferry_disk.specs.Device.{told_files}
 use Rattle.ferry_disk.specs.Moments.{Between}
 use Rattle.ferry_manifest.specs.Manifest.Writing.{IsPackable}
 use Rattle.ferry_piece.proofs.WorkLemmas.{err_is}
-use Rattle.ferry_piece.specs.Fault.{IsOfWork, target_fault}
+use Rattle.ferry_piece.specs.Fault.{IsOfReading, IsOfWork, target_fault}
 use Rattle.ferry_piece.specs.Work.{Works}
 use Rattle.ferry_piece.specs.declared.fault.CarryFault.{CarryFault}
 use Rattle.ferry_piece.specs.declared.fault.CarryFault.TheVariants as Carry
 use Rattle.ferry_refs.proofs.DropLemmas.{untold_then}
-use Rattle.ferry_refs.proofs.TagCauseLemmas.{reading_refused, told_writing_refused}
+use Rattle.ferry_refs.proofs.TagCauseLemmas.{reading_refused, told_writing_refused, told_writing_new}
 use Rattle.ferry_refs.proofs.TaggingLemmas.{at_old, no_items, read_accepted, read_unspent, untagged_keeps, works_needless, works_tagged, works_unread}
 use Rattle.ferry_refs.proofs.TaggingLemmas.{works_untagged, works_untimed}
 use Rattle.ferry_refs.proofs.tagging.tag_archives.Goals as goal
 use Rattle.ferry_refs.specs.Deleting.{LeavesCommitted, time_of}
 use Rattle.ferry_refs.specs.TagSteps.{RefusesWriting, SoundTagged, TagsWith, olds_view, old_view}
-use Rattle.ferry_refs.specs.Tagging.{RefusesTagging, Tags, TagsSound}
+use Rattle.ferry_refs.specs.Tagging.{RefusesTagging, Tags, TagsSound, IsOfNewRecord}
 use Rattle.ferry_refs.specs.declared.untagged.Untagged.{Untagged}
 use Rattle.ferry_repo.specs.Opening.{RepoState, repo_view}
 
@@ -210,3 +210,43 @@ pub returns-clause-untold : goal.returns-clause-untold
 returns-clause-untold g c =
     untold_then (g.D.Shelf.told c.args.depot.now) (g.D.Shelf.told c.read_old.new.depot) (g.D.Shelf.told c.write_tagged.new.depot)
     c.in_ok-old.ensures.untold c.in_ok-write_tagged.ensures.untold
+
+pub returns-in_err-old-clause-unwritten : goal.returns-in_err-old-clause-unwritten
+returns-in_err-old-clause-unwritten g c =
+    let a = g.D.Shelf.told c.args.depot.now in
+    let b = g.D.Shelf.told c.read_old.new.depot in
+    err_is c.from_residual.result (target_fault c.in_err-old.field-0.0)
+    (λ (r : Result ℕ CarryFault). IfErr r (λ (f : CarryFault). IsOfReading f → Between a b (λ h g. g ≡ h)
+    ⊎ IfSome a (λ t. IsOfNewRecord (told_files t) (repo_view c.args.store.now.repo)
+    (g.E.Entropy.drawn c.args.entropy.now) (g.E.Entropy.drawn c.args.entropy.now) b f)))
+    c.from_residual.ensures.1 (λ of. inl c.in_err-old.ensures.same)
+
+pub returns-in_err-time-clause-unwritten : goal.returns-in_err-time-clause-unwritten
+returns-in_err-time-clause-unwritten g c =
+    let a = g.D.Shelf.told c.args.depot.now in
+    let b = g.D.Shelf.told c.read_old.new.depot in
+    err_is c.from_residual-in_err-time.result Carry.Memory
+    (λ (r : Result ℕ CarryFault). IfErr r (λ (f : CarryFault). IsOfReading f → Between a b (λ h g. g ≡ h)
+    ⊎ IfSome a (λ t. IsOfNewRecord (told_files t) (repo_view c.args.store.now.repo)
+    (g.E.Entropy.drawn c.args.entropy.now) (g.E.Entropy.drawn c.args.entropy.now) b f)))
+    c.from_residual-in_err-time.ensures.1 (λ of. absurd of)
+
+pub returns-in_err-write_tagged-clause-unwritten : goal.returns-in_err-write_tagged-clause-unwritten
+returns-in_err-write_tagged-clause-unwritten g c =
+    let store = c.args.store.now in
+    let read = c.read_old.new.store in
+    let old = c.in_ok-old.old in
+    let olds = olds_view old.untagged.items in
+    let a = g.D.Shelf.told c.args.depot.now in
+    let b = g.D.Shelf.told c.read_old.new.depot in
+    let d = g.D.Shelf.told c.write_tagged.new.depot in
+    let fault = c.in_err-write_tagged.field-0.0 in
+    let refused = subst (λ (r : RepoState). IfSome b (λ _. RefusesWriting r c.deref.result.now olds (g.E.Entropy.drawn c.args.entropy.now)
+    (g.E.Entropy.drawn c.write_tagged.new.entropy) d fault)) c.in_ok-old.ensures.read.repo c.in_err-write_tagged.ensures.refused in
+    err_is c.from_residual-in_err-write_tagged.result fault
+    (λ (r : Result ℕ CarryFault). IfErr r (λ (f : CarryFault). IsOfReading f → Between a d (λ h g. g ≡ h)
+    ⊎ IfSome a (λ t. IsOfNewRecord (told_files t) (repo_view c.args.store.now.repo)
+    (g.E.Entropy.drawn c.args.entropy.now) (g.E.Entropy.drawn c.write_tagged.new.entropy) d f)))
+    c.from_residual-in_err-write_tagged.ensures.1
+    (told_writing_new store read olds old.freed.items a b (g.E.Entropy.drawn c.args.entropy.now) (g.E.Entropy.drawn c.write_tagged.new.entropy) d
+    c.deref.result.now fault (at_old store read old c.in_ok-old.ensures.did).end c.in_ok-old.ensures.untold c.in_err-write_tagged.ensures.untold refused)

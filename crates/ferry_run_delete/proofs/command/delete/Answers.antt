@@ -1,4 +1,7 @@
-use Rattle.std.proofs.Common.{rules, ◌≡◌, inr, ℕ, List, subst, []}
+use Rattle.ferry_status.proofs.OpenedLemmas.{done_number, refused_number}
+use Rattle.ferry_status.proofs.UnreadLemmas.{unread_reading}
+use Rattle.ferry_status.specs.Status.{is_unread}
+use Rattle.std.proofs.Common.{rules, ◌≡◌, inr, ℕ, List, subst, [], sym, ap, ◌∙◌}
 use Rattle.ferry_disk.proofs.MomentLemmas.{between_map}
 use Rattle.ferry_disk.specs.Moments.{Between}
 use Rattle.ferry_run_delete.proofs.CauseLemmas.{deletes_done}
@@ -51,3 +54,16 @@ returns-clause-completes g c =
           same
           c.in-Err.ensures.refused;
     }))
+
+pub returns-in-Ok-clause-number : goal.returns-in-Ok-clause-number
+returns-in-Ok-clause-number g c =
+    done_number {T = Unit {0}} (λ fault. ⊥) c.args.secret.now (g.D.Shelf.told c.args.target.now) tt c.in-Ok.ensures.number
+
+pub returns-clause-number : goal.returns-clause-number
+returns-clause-number g c =
+    refused_number (Unit {0}) (λ fault. ⊥) c.args.secret.now (g.D.Shelf.told c.args.target.now) c.in-Err.fault _ c.of_carry.ensures
+    c.in-Err.ensures.number
+
+pub returns-clause-unwritten : goal.returns-clause-unwritten
+returns-clause-unwritten g c unread =
+    c.in-Err.ensures.unwritten (unread_reading c.in-Err.fault (sym (ap is_unread c.of_carry.ensures) ∙ unread))

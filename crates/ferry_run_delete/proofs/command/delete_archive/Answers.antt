@@ -3,7 +3,7 @@ use Rattle.std.proofs.lemmas.Result.{IfErr-weaker}
 use Rattle.ferry_disk.specs.Device.{told_files}
 use Rattle.ferry_disk.specs.Moments.{Between}
 use Rattle.ferry_piece.proofs.WorkLemmas.{err_is}
-use Rattle.ferry_piece.specs.Fault.{IsOfWork, target_fault}
+use Rattle.ferry_piece.specs.Fault.{IsOfReading, IsOfWork, target_fault}
 use Rattle.ferry_piece.specs.Work.{Works}
 use Rattle.ferry_piece.specs.declared.fault.CarryFault.{CarryFault}
 use Rattle.ferry_refs.specs.Deleting.{Deletes, DeletesSound, RefusesDelete, time_of}
@@ -14,10 +14,12 @@ use Rattle.ferry_run_delete.proofs.command.delete_archive.Goals as goal
 use Rattle.ferry_run_delete.specs.Delete.{LeavesOthers}
 use Rattle.ferry_run_delete.specs.Steps.{GoesAway}
 use Rattle.ferry_run_delete.proofs.ShowLemmas.{DeleteEach, deletion}
-use Rattle.ferry_status.proofs.OpenedLemmas.{opened_then}
-use Rattle.ferry_status.specs.Opened.{LeavesAll}
+use Rattle.ferry_status.proofs.OpenedLemmas.{opened_then, has_number, unopened_number}
+use Rattle.ferry_status.specs.Opened.{LeavesAll, NeedsNumber}
+use Rattle.ferry_store.proofs.StepLemmas.{before_same}
 use Rattle.ferry_store.proofs.UseLemmas.{fits_opened}
 use Rattle.ferry_store.specs.Store.{OpenEach, OpenFits}
+use Rattle.ferry_write.specs.Front.{OnlyRemoves}
 
 pub returns-in_err-store-clause-works : goal.returns-in_err-store-clause-works
 returns-in_err-store-clause-works g c =
@@ -105,4 +107,32 @@ returns-in_err-store-clause-shut g c = c.open.ensures.kept
 pub returns-clause-shut : goal.returns-clause-shut
 returns-clause-shut g c =
     opened_then c.args.secret.now (repo_view c.in_ok-store.store.repo) (g.D.Shelf.told c.args.target.now) (g.D.Shelf.told c.open.new.depot)
-    (g.D.Shelf.told c.delete.new.depot) _ _ c.in_ok-store.ensures.opened c.in_ok-store.ensures.did.each c.delete.ensures.works.each
+    (g.D.Shelf.told c.delete.new.depot) _ _ c.in_ok-store.ensures.opened c.in_ok-store.ensures.numbered c.in_ok-store.ensures.did.each
+    c.delete.ensures.works.each
+
+pub returns-in_err-store-clause-number : goal.returns-in_err-store-clause-number
+returns-in_err-store-clause-number g c =
+    let refusal = c.in_err-store.field-0.0 in
+    err_is c.from_residual.result (target_fault refusal)
+    (λ (r : Result ℕ CarryFault). NeedsNumber (λ fault. ⊥) c.args.secret.now (g.D.Shelf.told c.args.target.now) r)
+    c.from_residual.ensures.1
+    (unopened_number ℕ (λ fault. ⊥) c.args.secret.now (g.D.Shelf.told c.args.target.now) refusal c.in_err-store.ensures.refused)
+
+pub returns-clause-number : goal.returns-clause-number
+returns-clause-number g c =
+    has_number {T = ℕ} (λ fault. ⊥) c.args.secret.now (g.D.Shelf.told c.args.target.now) _ c.in_ok-store.ensures.numbered
+
+pub returns-in_err-store-clause-unwritten : goal.returns-in_err-store-clause-unwritten
+returns-in_err-store-clause-unwritten g c =
+    let a = g.D.Shelf.told c.args.target.now in
+    let b = g.D.Shelf.told c.open.new.depot in
+    err_is c.from_residual.result (target_fault c.in_err-store.field-0.0)
+    (λ (r : Result ℕ CarryFault). IfErr r (λ (f : CarryFault). IsOfReading f → Between a b OnlyRemoves)) c.from_residual.ensures.1
+    (λ of. c.in_err-store.ensures.removes)
+
+pub returns-clause-unwritten : goal.returns-clause-unwritten
+returns-clause-unwritten g c =
+    IfErr-weaker c.delete.result _ _
+    (λ fault unwritten of. before_same OnlyRemoves (g.D.Shelf.told c.args.target.now) (g.D.Shelf.told c.open.new.depot) (g.D.Shelf.told c.delete.new.depot)
+    c.in_ok-store.ensures.removes (unwritten of))
+    c.delete.ensures.unwritten

@@ -12,10 +12,11 @@ use Rattle.ferry_store.proofs.StepLemmas.{failed_then, here_each}
 use Rattle.ferry_store.specs.Store.{InitLeaves}
 use Rattle.ferry_write.specs.Session.{SettlesFirst}
 use Rattle.ferry_run_drill.proofs.CompleteLemmas.{finished_completes, refused_completes}
+use Rattle.ferry_run_drill.proofs.DropLemmas.{finished_drops, refused_drops}
 use Rattle.ferry_run_drill.proofs.PrintLemmas.{of_fault}
 use Rattle.ferry_run_drill.proofs.WorkLemmas.{copied_drill, copied_start, each_read, leaves_here}
 use Rattle.ferry_run_drill.proofs.command.drill.Goals as goal
-use Rattle.ferry_run_drill.specs.Drill.{PrintsDrill, TellsStart}
+use Rattle.ferry_run_drill.specs.Drill.{DropsWhere, PrintsDrill, TellsStart}
 use Rattle.ferry_run_drill.specs.Complete.{EndsDone}
 use Rattle.ferry_status.specs.declared.status.Status.TheVariants as Statuses
 
@@ -28,7 +29,7 @@ finish-requires g c =
     record {
       copied = copied_drill c.args.count (files_now c.in-Some.source.history) c.in-Some.ensures.source works.0 works.1.0 c.requires.most c.in-Ok.carried
           (g.D.Shelf.told c.args.target.now) (g.D.Shelf.told c.copy_source.new.target) (g.D.Shelf.faults c.args.target.now)
-          (g.D.Shelf.faults c.copy_source.new.target) c.requires.least works.1.1;
+          (g.D.Shelf.faults c.copy_source.new.target) c.requires.least c.in-Some.ensures.plain works.1.1;
     }
 
 pub returns-in-Ok-clause-start : goal.returns-in-Ok-clause-start
@@ -66,6 +67,20 @@ pub returns-clause-start : goal.returns-clause-start
 returns-clause-start g c =
     subst (λ (s : Status). IfSome (g.D.Shelf.told c.args.target.now) (λ t. TellsStart (told_files t) s)) (sym c.of_carry.ensures) c.in-Err.ensures.start
 
+pub returns-in-Ok-clause-drops : goal.returns-in-Ok-clause-drops
+returns-in-Ok-clause-drops g c =
+    finished_drops (g.D.Shelf.told c.args.target.now) (g.D.Shelf.told c.copy_source.new.target) (g.D.Shelf.told c.finish.new.target)
+    (g.E.Entropy.drawn c.args.entropy.now) (g.E.Entropy.drawn c.copy_source.new.entropy) SettlesFirst c.finish.result
+    c.in-Ok.ensures.works.1.1.each c.finish.ensures.read c.in-Ok.ensures.drops
+
+pub returns-clause-drops : goal.returns-clause-drops
+returns-clause-drops g c =
+    let a = g.D.Shelf.told c.args.target.now in
+    let d = g.D.Shelf.told c.copy_source.new.target in
+    let x = g.E.Entropy.drawn c.args.entropy.now in
+    let z = g.E.Entropy.drawn c.copy_source.new.entropy in
+    subst (DropsWhere a d x z) (sym c.of_carry.ensures) (refused_drops a d x z c.in-Err.fault)
+
 pub returns-in-Ok-clause-completes : goal.returns-in-Ok-clause-completes
 returns-in-Ok-clause-completes g c =
     let a = g.D.Shelf.told c.args.target.now in
@@ -73,7 +88,8 @@ returns-in-Ok-clause-completes g c =
     finished_completes c.args.count c.in-Ok.carried (files_now c.in-Some.source.history) a b (g.D.Shelf.told c.finish.new.target) SettlesFirst c.finish.result
     c.in-Some.ensures.source c.in-Ok.ensures.works.1.1.each
     (copied_drill c.args.count (files_now c.in-Some.source.history) c.in-Some.ensures.source c.in-Ok.ensures.works.0 c.in-Ok.ensures.works.1.0 c.requires.most
-    c.in-Ok.carried a b (g.D.Shelf.faults c.args.target.now) (g.D.Shelf.faults c.copy_source.new.target) c.requires.least c.in-Ok.ensures.works.1.1)
+    c.in-Ok.carried a b (g.D.Shelf.faults c.args.target.now) (g.D.Shelf.faults c.copy_source.new.target) c.requires.least c.in-Some.ensures.plain
+    c.in-Ok.ensures.works.1.1)
     c.finish.ensures.read c.finish.ensures.completes
 
 pub returns-clause-completes : goal.returns-clause-completes

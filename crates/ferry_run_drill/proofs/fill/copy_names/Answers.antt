@@ -8,6 +8,7 @@ use Rattle.ferry_piece.specs.declared.fault.CarryFault.{CarryFault}
 use Rattle.ferry_repo.specs.Opening.{repo_view, OpensFilesTo}
 use Rattle.ferry_write.specs.Session.{SettlesFirst}
 use Rattle.ferry_run_drill.proofs.CopyLemmas.{copied_works}
+use Rattle.ferry_run_drill.proofs.DropLemmas.{carried_drops}
 use Rattle.ferry_run_drill.proofs.WorkLemmas.{copied_tells, made_fits, made_leaves, never_failed, unmade_works}
 use Rattle.ferry_run_drill.specs.Steps.{CopiesNames, drill_origin}
 use Rattle.ferry_gen.specs.Source.{source_secret}
@@ -63,6 +64,14 @@ returns-clause-kept g c =
     (g.D.Shelf.faults c.args.target.now) (g.D.Shelf.faults c.make_target.new.target)
     (KeepsReported (drill_origin (files_now c.args.source.now.history) (repo_view c.args.repo.now)) c.args.names.now c.in_ok-store.store
     c.carry.ensures.works.added) c.in_ok-store.ensures.works c.carry.ensures.works.works.each
+
+pub returns-clause-drops : goal.returns-clause-drops
+returns-clause-drops g c =
+    carried_drops (files_now c.args.source.now.history) (repo_view c.args.repo.now) c.args.names.now c.in_ok-store.store c.carry.new.store
+    (g.D.Shelf.told c.args.target.now) (g.D.Shelf.told c.make_target.new.target) (g.D.Shelf.told c.carry.new.depot)
+    (g.D.Shelf.faults c.args.target.now) (g.D.Shelf.faults c.make_target.new.target) (g.D.Shelf.faults c.carry.new.depot)
+    (g.E.Entropy.drawn c.args.entropy.now) (g.E.Entropy.drawn c.make_target.new.entropy) (g.E.Entropy.drawn c.carry.new.entropy) c.carry.result
+    c.in_ok-store.ensures.works c.carry.ensures.works c.in_ok-store.ensures.drops
 
 pub returns-clause-own : goal.returns-clause-own
 returns-clause-own g c = never_failed c.carry.result c.carry.ensures.both.source.cause

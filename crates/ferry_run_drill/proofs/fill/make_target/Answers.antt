@@ -1,4 +1,4 @@
-use Rattle.std.proofs.Common.{IfErr, IfSome, Result, refl}
+use Rattle.std.proofs.Common.{IfErr, IfSome, Result, refl, rules}
 use Rattle.ferry_disk.specs.Device.{told_files}
 use Rattle.ferry_piece.proofs.WorkLemmas.{err_is, works_err, works_nothing}
 use Rattle.ferry_piece.specs.Fault.{target_fault}
@@ -11,6 +11,7 @@ use Rattle.ferry_store.specs.Store.{InitEach, InitFits, InitLeaves}
 use Rattle.ferry_store.specs.declared.store.Store.{Store}
 use Rattle.ferry_write.specs.Session.{SettlesFirst}
 use Rattle.ferry_run_drill.proofs.CopyLemmas.{made_works}
+use Rattle.ferry_run_drill.proofs.DropLemmas.{made_drops}
 use Rattle.ferry_run_drill.proofs.WorkLemmas.{init_leaves, leaves_here, says_all, unmade_tells}
 use Rattle.ferry_run_drill.specs.Drill.{TellsStart, drill_time}
 use Rattle.ferry_run_drill.specs.Steps.{IsMadeNew}
@@ -56,6 +57,13 @@ returns-clause-works g c =
     made.1.1 c.in_ok-store.ensures.untold c.in_ok-store.ensures.opened c.in_ok-store.ensures.accepted c.in_ok-store.ensures.fresh.1
     c.in_ok-store.ensures.few
 
+pub returns-clause-drops : goal.returns-clause-drops
+returns-clause-drops g c =
+    let made = c.in_ok-store.ensures.made in
+    made_drops c.in_ok-secret.secret _ c.fill.new.into made.0 (g.D.Shelf.told c.args.target.now) (g.D.Shelf.told c.init.new.depot)
+    (g.E.Entropy.drawn c.args.entropy.now) (g.E.Entropy.drawn c.fill.new.self) (g.E.Entropy.drawn c.init.new.entropy) c.in_ok-secret.ensures.secret refl
+    (search rules) c.requires.begun c.in_ok-fill.ensures.drawn made.1.0 made.1.1
+
 pub returns-in_err-fill-clause-start : goal.returns-in_err-fill-clause-start
 returns-in_err-fill-clause-start g c =
     let a = g.D.Shelf.told c.args.target.now in
@@ -77,7 +85,8 @@ returns-in_err-store-clause-start g c =
     err_is c.from_residual-in_err-store.result (target_fault refusal)
     (λ (r : Result Store CarryFault). IfErr r (λ (f : CarryFault). IfSome a (λ t. TellsStart (told_files t) (carry_status f))))
     c.from_residual-in_err-store.ensures.1
-    (unmade_tells c.in_ok-secret.secret _ a refusal c.requires.begun c.in_err-store.ensures.refused)
+    (unmade_tells c.in_ok-secret.secret drill_time a (no_key c.in_ok-secret.secret c.in_ok-secret.ensures.secret) refl refusal c.requires.begun
+    c.in_err-store.ensures.refused)
 
 pub returns-in_err-fill-clause-kept : goal.returns-in_err-fill-clause-kept
 returns-in_err-fill-clause-kept g c = here_each InitLeaves (g.D.Shelf.told c.args.target.now) leaves_here

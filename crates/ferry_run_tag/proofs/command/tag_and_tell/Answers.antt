@@ -1,14 +1,18 @@
-use Rattle.std.proofs.Common.{Result, [], ◌≡◌}
+use Rattle.ferry_status.specs.Opened.{NeedsNumber}
+use Rattle.std.proofs.Common.{Result, Ok, [], ◌≡◌, ◌⊎◌, ℕ, IfErr}
 use Rattle.ferry_piece.proofs.WorkLemmas.{err_is}
-use Rattle.ferry_piece.specs.Fault.{target_fault}
+use Rattle.ferry_piece.specs.Fault.{IsOfReading, target_fault}
 use Rattle.ferry_piece.specs.Work.{Works}
 use Rattle.ferry_piece.specs.declared.fault.CarryFault.{CarryFault}
 use Rattle.ferry_run_tag.proofs.EndLemmas.{all_works, untold_works}
 use Rattle.ferry_run_tag.proofs.command.tag_and_tell.Goals as goal
 use Rattle.ferry_run_tag.specs.Steps.{GetsTags}
-use Rattle.ferry_run_tag.specs.Tag.{HasTagged}
+use Rattle.ferry_run_tag.specs.Tag.{BreaksRecord, HasTagged}
 use Rattle.ferry_run_tag.proofs.ShowLemmas.{TagEach, tagging}
-use Rattle.ferry_status.proofs.OpenedLemmas.{known_then}
+use Rattle.ferry_status.proofs.OpenedLemmas.{known_then, fault_number, has_number, number_of}
+use Rattle.ferry_status.proofs.UnreadLemmas.{telling_apart}
+use Rattle.ferry_disk.specs.Moments.{Between}
+use Rattle.ferry_write.specs.Front.{OnlyRemoves}
 use Rattle.ferry_write.specs.Script.{AllDone}
 
 pub returns-in_err-tell_tagged-clause-works : goal.returns-in_err-tell_tagged-clause-works
@@ -39,6 +43,7 @@ returns-in_err-tell_tagged-clause-shut g c =
     let asked = tagging c.args.secret.now c.args.timestamp.now (g.E.Entropy.drawn c.args.entropy.now) (g.E.Entropy.drawn c.tag_target.new.entropy) in
     known_then c.args.secret.now (g.D.Shelf.told c.args.target.now) (g.D.Shelf.told c.tag_target.new.target) (g.D.Shelf.told c.tell_tagged.new.target)
     (λ h k. AllDone h k × GetsTags asked.secret asked.timestamp asked.drawn asked.drawn_now c.in_ok-count.count h k) _ c.requires.begun
+    (number_of {T = ℕ} (λ fault. ⊥) c.args.secret.now (g.D.Shelf.told c.args.target.now) c.in_ok-count.count c.in_ok-count.ensures.number)
     (λ h k acts e. let tagged = e.1 acts in (tagged.repo, tagged.opens))
     c.in_ok-count.ensures.works.end c.in_err-tell_tagged.ensures.did.each
 
@@ -47,5 +52,37 @@ returns-clause-shut g c =
     let asked = tagging c.args.secret.now c.args.timestamp.now (g.E.Entropy.drawn c.args.entropy.now) (g.E.Entropy.drawn c.tag_target.new.entropy) in
     known_then c.args.secret.now (g.D.Shelf.told c.args.target.now) (g.D.Shelf.told c.tag_target.new.target) (g.D.Shelf.told c.tell_tagged.new.target)
     (λ h k. AllDone h k × GetsTags asked.secret asked.timestamp asked.drawn asked.drawn_now c.in_ok-count.count h k) _ c.requires.begun
+    (number_of {T = ℕ} (λ fault. ⊥) c.args.secret.now (g.D.Shelf.told c.args.target.now) c.in_ok-count.count c.in_ok-count.ensures.number)
     (λ h k acts e. let tagged = e.1 acts in (tagged.repo, tagged.opens))
     c.in_ok-count.ensures.works.end c.in_ok-tell_tagged.ensures.did.each
+
+pub returns-in_err-count-clause-number : goal.returns-in_err-count-clause-number
+returns-in_err-count-clause-number g c =
+    let fault = c.in_err-count.field-0.0 in
+    err_is c.from_residual.result fault
+    (λ (r : Result (Unit {0}) CarryFault). NeedsNumber (λ fault. ⊥) c.args.secret.now (g.D.Shelf.told c.args.target.now) r)
+    c.from_residual.ensures.1
+    (fault_number ℕ (Unit {0}) (λ fault. ⊥) c.args.secret.now (g.D.Shelf.told c.args.target.now) fault c.in_err-count.ensures.number)
+
+pub returns-in_err-tell_tagged-clause-number : goal.returns-in_err-tell_tagged-clause-number
+returns-in_err-tell_tagged-clause-number g c =
+    has_number {T = Unit {0}} (λ fault. ⊥) c.args.secret.now (g.D.Shelf.told c.args.target.now) _
+    (number_of {T = ℕ} (λ fault. ⊥) c.args.secret.now (g.D.Shelf.told c.args.target.now) c.in_ok-count.count c.in_ok-count.ensures.number)
+
+pub returns-clause-number : goal.returns-clause-number
+returns-clause-number g c =
+    has_number {T = Unit {0}} (λ fault. ⊥) c.args.secret.now (g.D.Shelf.told c.args.target.now) (Ok tt)
+    (number_of {T = ℕ} (λ fault. ⊥) c.args.secret.now (g.D.Shelf.told c.args.target.now) c.in_ok-count.count c.in_ok-count.ensures.number)
+
+pub returns-in_err-tell_tagged-clause-unwritten : goal.returns-in_err-tell_tagged-clause-unwritten
+returns-in_err-tell_tagged-clause-unwritten g c =
+    let refusal = c.in_err-tell_tagged.field-0.0 in
+    let a = g.D.Shelf.told c.args.target.now in
+    let d = g.D.Shelf.told c.tell_tagged.new.target in
+    let drawn = g.E.Entropy.drawn c.args.entropy.now in
+    let drawn_now = g.E.Entropy.drawn c.tag_target.new.entropy in
+    err_is c.from_residual-in_err-tell_tagged.result (target_fault refusal)
+    (λ (r : Result (Unit {0}) CarryFault). IfErr r (λ (f : CarryFault). IsOfReading f
+    → Between a d OnlyRemoves ⊎ BreaksRecord c.args.secret.now drawn drawn_now a d f))
+    c.from_residual-in_err-tell_tagged.ensures.1
+    (λ of. absurd (telling_apart refusal c.in_err-tell_tagged.ensures.refused of))

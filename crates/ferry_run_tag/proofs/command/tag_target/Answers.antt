@@ -1,24 +1,25 @@
-use Rattle.std.proofs.Common.{ℕ, List, Option, Result, IfErr, IfSome, subst}
+use Rattle.std.proofs.Common.{◌⊎◌, inl, ℕ, List, Option, Result, IfErr, IfSome, subst}
 use Rattle.std.proofs.lemmas.Result.{IfErr-weaker}
-use Rattle.ferry_run_tag.specs.Tag.{LeavesArchives}
+use Rattle.ferry_run_tag.specs.Tag.{BreaksRecord, LeavesArchives}
 use Rattle.ferry_disk.specs.Device.{told_files}
 use Rattle.ferry_disk.specs.Moments.{Between}
 use Rattle.ferry_piece.proofs.WorkLemmas.{err_is}
-use Rattle.ferry_piece.specs.Fault.{IsOfWork, target_fault}
+use Rattle.ferry_piece.specs.Fault.{IsOfReading, IsOfWork, target_fault}
 use Rattle.ferry_piece.specs.Work.{Works}
 use Rattle.ferry_piece.specs.declared.fault.CarryFault.{CarryFault}
 use Rattle.ferry_refs.specs.Deleting.{time_of}
 use Rattle.ferry_refs.specs.Tagging.{RefusesTagging, Tags, TagsSound}
 use Rattle.ferry_repo.specs.Opening.{repo_view}
-use Rattle.ferry_run_tag.proofs.CauseLemmas.{untagged_refused}
+use Rattle.ferry_run_tag.proofs.CauseLemmas.{untagged_refused, unwritten_then}
 use Rattle.ferry_run_tag.proofs.EndLemmas.{tagged_works, unopened_left, unopened_works, untagged_left}
 use Rattle.ferry_run_tag.proofs.command.tag_target.Goals as goal
 use Rattle.ferry_run_tag.specs.Steps.{GetsTags}
 use Rattle.ferry_run_tag.proofs.ShowLemmas.{TagEach, tagging}
-use Rattle.ferry_status.proofs.OpenedLemmas.{opened_then}
-use Rattle.ferry_status.specs.Opened.{LeavesAll}
+use Rattle.ferry_status.proofs.OpenedLemmas.{opened_then, has_number, unopened_number}
+use Rattle.ferry_status.specs.Opened.{LeavesAll, NeedsNumber}
 use Rattle.ferry_store.proofs.UseLemmas.{fits_opened}
 use Rattle.ferry_store.specs.Store.{OpenEach, OpenFits}
+use Rattle.ferry_write.specs.Front.{OnlyRemoves}
 
 pub returns-in_err-store-clause-works : goal.returns-in_err-store-clause-works
 returns-in_err-store-clause-works g c =
@@ -107,4 +108,36 @@ returns-in_err-store-clause-shut g c = c.open.ensures.kept
 pub returns-clause-shut : goal.returns-clause-shut
 returns-clause-shut g c =
     opened_then c.args.secret.now (repo_view c.in_ok-store.store.repo) (g.D.Shelf.told c.args.target.now) (g.D.Shelf.told c.open.new.depot)
-    (g.D.Shelf.told c.tag_archives.new.depot) _ _ c.in_ok-store.ensures.opened c.in_ok-store.ensures.did.each c.tag_archives.ensures.works.each
+    (g.D.Shelf.told c.tag_archives.new.depot) _ _ c.in_ok-store.ensures.opened c.in_ok-store.ensures.numbered c.in_ok-store.ensures.did.each
+    c.tag_archives.ensures.works.each
+
+pub returns-in_err-store-clause-number : goal.returns-in_err-store-clause-number
+returns-in_err-store-clause-number g c =
+    let refusal = c.in_err-store.field-0.0 in
+    err_is c.from_residual.result (target_fault refusal)
+    (λ (r : Result ℕ CarryFault). NeedsNumber (λ fault. ⊥) c.args.secret.now (g.D.Shelf.told c.args.target.now) r)
+    c.from_residual.ensures.1
+    (unopened_number ℕ (λ fault. ⊥) c.args.secret.now (g.D.Shelf.told c.args.target.now) refusal c.in_err-store.ensures.refused)
+
+pub returns-clause-number : goal.returns-clause-number
+returns-clause-number g c =
+    has_number {T = ℕ} (λ fault. ⊥) c.args.secret.now (g.D.Shelf.told c.args.target.now) _ c.in_ok-store.ensures.numbered
+
+pub returns-in_err-store-clause-unwritten : goal.returns-in_err-store-clause-unwritten
+returns-in_err-store-clause-unwritten g c =
+    let a = g.D.Shelf.told c.args.target.now in
+    let b = g.D.Shelf.told c.open.new.depot in
+    let drawn = g.E.Entropy.drawn c.args.entropy.now in
+    err_is c.from_residual.result (target_fault c.in_err-store.field-0.0)
+    (λ (r : Result ℕ CarryFault). IfErr r (λ (f : CarryFault). IsOfReading f → Between a b OnlyRemoves ⊎ BreaksRecord c.args.secret.now drawn drawn a b f))
+    c.from_residual.ensures.1
+    (λ of. inl c.in_err-store.ensures.removes)
+
+pub returns-clause-unwritten : goal.returns-clause-unwritten
+returns-clause-unwritten g c =
+    let asked = tagging c.args.secret.now c.args.timestamp.now (g.E.Entropy.drawn c.args.entropy.now) (g.E.Entropy.drawn c.tag_archives.new.entropy) in
+    IfErr-weaker c.tag_archives.result _ _
+    (λ fault unwritten of. unwritten_then asked c.in_ok-store.store (g.D.Shelf.told c.args.target.now) (g.D.Shelf.told c.open.new.depot)
+    (g.D.Shelf.told c.tag_archives.new.depot) fault c.requires.begun c.in_ok-store.ensures.opened c.in_ok-store.ensures.did.end c.in_ok-store.ensures.removes
+    (unwritten of))
+    c.tag_archives.ensures.unwritten

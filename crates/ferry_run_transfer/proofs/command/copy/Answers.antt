@@ -1,3 +1,4 @@
+use Rattle.ferry_status.specs.Opened.{NeedsNumber}
 use Rattle.std.proofs.Common.{◌≡◌, true, Result, refl, subst, IfSome}
 use Rattle.ferry_piece.proofs.FaultLemmas.{source_still}
 use Rattle.ferry_piece.proofs.WorkLemmas.{err_is}
@@ -8,7 +9,7 @@ use Rattle.ferry_disk.specs.Moments.{Between}
 use Rattle.ferry_repo.specs.Fault.{repo_failed}
 use Rattle.ferry_repo.specs.declared.fault.RepoFault.{RepoFault}
 use Rattle.ferry_repo.specs.declared.repo.Repo.{Repo}
-use Rattle.ferry_status.proofs.OpenedLemmas.{shut_here}
+use Rattle.ferry_status.proofs.OpenedLemmas.{shut_here, before_number}
 use Rattle.ferry_run_transfer.proofs.PuttingLemmas.{untouched_first, untouched_puts}
 use Rattle.ferry_run_transfer.proofs.ToldLemmas.{untouched_told}
 use Rattle.ferry_run_transfer.specs.Putting.{LeavesFirst, TransferPuts, is_spared}
@@ -19,8 +20,8 @@ use Rattle.ferry_run_transfer.proofs.command.copy.Goals as goal
 use Rattle.ferry_carry.specs.States.{drawn_from}
 use Rattle.ferry_run_transfer.specs.Transfer.{LeavesTold, Request, TransferEach, TransferEnds, asked}
 use Rattle.std.proofs.Common.{IfErr}
-use Rattle.ferry_run_transfer.proofs.RefusedLemmas.{asked_source, unread_refused, unused}
-use Rattle.ferry_run_transfer.specs.TransferCauses.{IsFound, RefusesAsked}
+use Rattle.ferry_run_transfer.proofs.RefusedLemmas.{asked_source, unread_refused, unused, unread_before}
+use Rattle.ferry_run_transfer.specs.TransferCauses.{IsFound, RefusesAsked, IsBeforeTarget}
 use Rattle.ferry_status.specs.Devices.{drawn as drawn_of, store}
 
 pub returns-in_err-repo-clause-works : goal.returns-in_err-repo-clause-works
@@ -129,3 +130,21 @@ returns-clause-puts g c =
     subst (λ (request : Request). Between (g.D.Shelf.told c.args.target.now) (g.D.Shelf.told c.copy_into.new.target) (TransferPuts request))
     (asked_kept {T = Repo} {F = RepoFault} c.args.secrets.now c.args.options.now c.args.names.now repo_failed (g.S.Shelf.told c.args.source.now)
     (g.S.Shelf.told c.open.new.shelf) c.in_ok-repo.repo c.in_ok-repo.ensures.same) c.copy_into.ensures.puts
+
+pub returns-in_err-repo-clause-number : goal.returns-in_err-repo-clause-number
+returns-in_err-repo-clause-number g c =
+    let a = g.D.Shelf.told c.args.target.now in
+    let told = g.S.Shelf.told c.args.source.now in
+    let request = asked c.args.secrets.now c.args.options.now c.args.names.now told in
+    let fault = c.in_err-repo.field-0.0 in
+    err_is c.from_residual.result (source_fault fault)
+    (λ (r : Result (Unit {0}) CarryFault). NeedsNumber (IsBeforeTarget request) c.args.secrets.now.target a r)
+    c.from_residual.ensures.1
+    (before_number (Unit {0}) (IsBeforeTarget request) c.args.secrets.now.target a (source_fault fault)
+    (unread_before request fault (asked_source c.args.secrets.now c.args.options.now c.args.names.now told fault c.in_err-repo.ensures.refused)))
+
+pub returns-clause-number : goal.returns-clause-number
+returns-clause-number g c =
+    subst (λ (request : Request). NeedsNumber (IsBeforeTarget request) c.args.secrets.now.target (g.D.Shelf.told c.args.target.now) c.copy_into.result)
+    (asked_kept {T = Repo} {F = RepoFault} c.args.secrets.now c.args.options.now c.args.names.now repo_failed (g.S.Shelf.told c.args.source.now)
+    (g.S.Shelf.told c.open.new.shelf) c.in_ok-repo.repo c.in_ok-repo.ensures.same) c.copy_into.ensures.number

@@ -1,4 +1,5 @@
-use Rattle.std.proofs.Common.{rules, ◌≡◌, true, Result, IfErr, refl, ◌∙◌}
+use Rattle.ferry_status.specs.Opened.{NeedsNumber}
+use Rattle.std.proofs.Common.{rules, ◌≡◌, true, Result, Ok, IfErr, refl, ◌∙◌}
 use Rattle.ferry_piece.proofs.WorkLemmas.{err_is}
 use Rattle.ferry_piece.specs.Fault.{IsOfWork, random_failed, shelf_failed, target_fault}
 use Rattle.ferry_piece.specs.Work.{Works}
@@ -9,7 +10,7 @@ use Rattle.ferry_disk.specs.Moments.{Between}
 use Rattle.ferry_repo.specs.Opening.{repo_view}
 use Rattle.ferry_store.proofs.UseLemmas.{fits_opened}
 use Rattle.ferry_store.specs.Store.{OpenEach, OpenFits}
-use Rattle.ferry_status.proofs.OpenedLemmas.{opened_then, shut_here}
+use Rattle.ferry_status.proofs.OpenedLemmas.{opened_then, shut_here, before_number, has_number, unopened_number}
 use Rattle.ferry_run_transfer.proofs.PuttingLemmas.{carried_puts, stopped_first, unopened_first, unopened_puts, untouched_first, untouched_puts}
 use Rattle.ferry_run_transfer.proofs.ToldLemmas.{stopped_told, unopened_told, untouched_told}
 use Rattle.ferry_run_transfer.specs.Putting.{LeavesFirst, is_spared}
@@ -19,9 +20,9 @@ use Rattle.ferry_run_transfer.proofs.UntouchedLemmas.{unopened, untouched}
 use Rattle.ferry_run_transfer.proofs.command.copy_into.Goals as goal
 use Rattle.ferry_carry.specs.States.{drawn_from}
 use Rattle.ferry_run_transfer.specs.Transfer.{LeavesTold, TransferEach, TransferEnds, asked}
-use Rattle.ferry_run_transfer.proofs.RefusedLemmas.{found_apart, memory_refused, missing_refused, names_found, unopened_refused, unused}
+use Rattle.ferry_run_transfer.proofs.RefusedLemmas.{found_apart, memory_refused, missing_refused, names_found, unopened_refused, unused, missing_before}
 use Rattle.ferry_run_transfer.proofs.CauseLemmas.{names_refused}
-use Rattle.ferry_run_transfer.specs.TransferCauses.{RefusesAsked}
+use Rattle.ferry_run_transfer.specs.TransferCauses.{RefusesAsked, IsBeforeTarget}
 
 pub returns-in_err-chosen-clause-works : goal.returns-in_err-chosen-clause-works
 returns-in_err-chosen-clause-works g c =
@@ -316,12 +317,14 @@ returns-in_err-store-clause-shut g c = c.open.ensures.kept
 pub returns-in_err-carry-clause-shut : goal.returns-in_err-carry-clause-shut
 returns-in_err-carry-clause-shut g c =
     opened_then c.args.secrets.now.target (repo_view c.in_ok-store.store.repo) (g.D.Shelf.told c.args.target.now) (g.D.Shelf.told c.open.new.depot)
-    (g.D.Shelf.told c.carry.new.depot) _ _ c.in_ok-store.ensures.opened c.in_ok-store.ensures.did.each c.carry.ensures.works.works.each
+    (g.D.Shelf.told c.carry.new.depot) _ _ c.in_ok-store.ensures.opened c.in_ok-store.ensures.numbered c.in_ok-store.ensures.did.each
+    c.carry.ensures.works.works.each
 
 pub returns-clause-shut : goal.returns-clause-shut
 returns-clause-shut g c =
     opened_then c.args.secrets.now.target (repo_view c.in_ok-store.store.repo) (g.D.Shelf.told c.args.target.now) (g.D.Shelf.told c.open.new.depot)
-    (g.D.Shelf.told c.carry.new.depot) _ _ c.in_ok-store.ensures.opened c.in_ok-store.ensures.did.each c.carry.ensures.works.works.each
+    (g.D.Shelf.told c.carry.new.depot) _ _ c.in_ok-store.ensures.opened c.in_ok-store.ensures.numbered c.in_ok-store.ensures.did.each
+    c.carry.ensures.works.works.each
 
 pub returns-in_err-chosen-clause-puts : goal.returns-in_err-chosen-clause-puts
 returns-in_err-chosen-clause-puts g c =
@@ -369,3 +372,43 @@ returns-in_err-carry-clause-entropy g c =
     err_is c.from_residual-in_err-carry.result c.in_err-carry.field-0.0
     (λ (r : Result (Unit {0}) CarryFault). HasCause random_failed (g.E.Entropy.faults c.args.entropy.now) (g.E.Entropy.faults c.carry.new.entropy) r)
     c.from_residual-in_err-carry.ensures.1 c.in_err-carry.ensures.both.entropy
+
+pub returns-in_err-chosen-clause-number : goal.returns-in_err-chosen-clause-number
+returns-in_err-chosen-clause-number g c =
+    let a = g.D.Shelf.told c.args.target.now in
+    let request = asked c.args.secrets.now c.args.options.now c.args.names.now (g.S.Shelf.told c.args.source.now) in
+    err_is c.from_residual.result Memory (λ (r : Result (Unit {0}) CarryFault). NeedsNumber (IsBeforeTarget request) c.args.secrets.now.target a r)
+    c.from_residual.ensures.1 (before_number (Unit {0}) (IsBeforeTarget request) c.args.secrets.now.target a Memory tt)
+
+pub returns-in_err-find_names-clause-number : goal.returns-in_err-find_names-clause-number
+returns-in_err-find_names-clause-number g c =
+    let a = g.D.Shelf.told c.args.target.now in
+    let request = asked c.args.secrets.now c.args.options.now c.args.names.now (g.S.Shelf.told c.args.source.now) in
+    let fault = c.in_err-find_names.field-0.0 in
+    err_is c.from_residual-in_err-find_names.result fault
+    (λ (r : Result (Unit {0}) CarryFault). NeedsNumber (IsBeforeTarget request) c.args.secrets.now.target a r)
+    c.from_residual-in_err-find_names.ensures.1
+    (before_number (Unit {0}) (IsBeforeTarget request) c.args.secrets.now.target a fault
+    (missing_before request (repo_view c.args.repo.now).manifest c.deref.result.now fault c.in_err-find_names.ensures.refused))
+
+pub returns-in_err-store-clause-number : goal.returns-in_err-store-clause-number
+returns-in_err-store-clause-number g c =
+    let a = g.D.Shelf.told c.args.target.now in
+    let request = asked c.args.secrets.now c.args.options.now c.args.names.now (g.S.Shelf.told c.args.source.now) in
+    let refusal = c.in_err-store.field-0.0 in
+    err_is c.from_residual-in_err-store.result (target_fault refusal)
+    (λ (r : Result (Unit {0}) CarryFault). NeedsNumber (IsBeforeTarget request) c.args.secrets.now.target a r)
+    c.from_residual-in_err-store.ensures.1
+    (unopened_number (Unit {0}) (IsBeforeTarget request) c.args.secrets.now.target a refusal c.in_err-store.ensures.refused)
+
+pub returns-in_err-carry-clause-number : goal.returns-in_err-carry-clause-number
+returns-in_err-carry-clause-number g c =
+    let a = g.D.Shelf.told c.args.target.now in
+    let request = asked c.args.secrets.now c.args.options.now c.args.names.now (g.S.Shelf.told c.args.source.now) in
+    has_number {T = Unit {0}} (IsBeforeTarget request) c.args.secrets.now.target a _ c.in_ok-store.ensures.numbered
+
+pub returns-clause-number : goal.returns-clause-number
+returns-clause-number g c =
+    let a = g.D.Shelf.told c.args.target.now in
+    let request = asked c.args.secrets.now c.args.options.now c.args.names.now (g.S.Shelf.told c.args.source.now) in
+    has_number {T = Unit {0}} (IsBeforeTarget request) c.args.secrets.now.target a (Ok tt) c.in_ok-store.ensures.numbered

@@ -1,3 +1,5 @@
+use Rattle.ferry_run_transfer.specs.TransferCauses.{IsBeforeTarget}
+use Rattle.ferry_status.proofs.OpenedLemmas.{done_number, refused_number}
 use Rattle.ferry_run_transfer.proofs.ToldLemmas.{of_work}
 use Rattle.ferry_run_transfer.proofs.UntouchedLemmas.{transfer_ended}
 use Rattle.ferry_run_transfer.proofs.command.transfer.Goals as goal
@@ -60,3 +62,13 @@ returns-in-Ok-clause-put g c refused = absurd (let e : false ≡ true = refused 
 pub returns-in-Err-clause-put : goal.returns-in-Err-clause-put
 returns-in-Err-clause-put g c refused =
     c.in-Err.ensures.put (subst (λ (status : Status). is_spared status ≡ true) c.of_carry.ensures refused)
+
+pub returns-in-Ok-clause-number : goal.returns-in-Ok-clause-number
+returns-in-Ok-clause-number g c =
+    done_number {T = Unit {0}} (IsBeforeTarget (asked c.args.secrets.now c.args.options.now c.args.names.now (g.S.Shelf.told c.args.source.now)))
+    c.args.secrets.now.target (g.D.Shelf.told c.args.target.now) tt c.in-Ok.ensures.number
+
+pub returns-in-Err-clause-number : goal.returns-in-Err-clause-number
+returns-in-Err-clause-number g c =
+    refused_number (Unit {0}) (IsBeforeTarget (asked c.args.secrets.now c.args.options.now c.args.names.now (g.S.Shelf.told c.args.source.now)))
+    c.args.secrets.now.target (g.D.Shelf.told c.args.target.now) c.in-Err.fault _ c.of_carry.ensures c.in-Err.ensures.number

@@ -1,4 +1,6 @@
-use Rattle.std.proofs.Common.{rules, inl, refl, ◌≡◌, ◌≢◌, false, ◌+◌, ◌++◌, ℕ, List, Ok, Err, Result, drop, length, IfErr, OnOk, option_map, ap, ◌∙◌}
+use Rattle.ferry_store.specs.Types.{FitsMode}
+use Rattle.std.proofs.Common.{rules, inl, refl, ◌≡◌, ◌≢◌, false, ◌+◌, ◌++◌, ℕ, List, Ok, Err, Result, drop, length, IfErr, OnOk, option_map, ap, ◌∙◌, IfSome}
+use Rattle.std.proofs.Common.{sym, subst}
 use Rattle.std.proofs.Common.{arith, subst, [], ◌∷◌}
 use Rattle.ferry_base.specs.Limits.{zero_id}
 use Rattle.ferry_blob.specs.Blob.{OpensTo, sealed}
@@ -266,3 +268,7 @@ returns-clause-writes g c =
           (g.D.Shelf.faults c.args.depot.now) (g.D.Shelf.faults c.put_object.new.depot) c.in_ok-put_object.ensures.writes c.in_ok-put_object.ensures.did
           (c.commit.ensures.writes drawn),
     )
+
+pub put_object-requires-clause-mode : goal.put_object-requires-clause-mode
+put_object-requires-clause-mode g c =
+    subst (λ (k : Mode). IfSome (g.D.Shelf.told c.args.depot.now) (λ t. FitsMode t.history k)) (sym c.mode-mode.ensures.mode) c.requires.mode

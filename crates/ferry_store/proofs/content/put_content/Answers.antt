@@ -1,4 +1,5 @@
-use Rattle.std.proofs.Common.{◌≡◌, ℕ, inr, List, Result, sym, ap, ◌∙◌, subst, IfErr, refl, Ok, arith}
+use Rattle.ferry_store.specs.Types.{FitsMode}
+use Rattle.std.proofs.Common.{◌≡◌, ℕ, inr, List, Result, sym, ap, ◌∙◌, subst, IfErr, refl, Ok, arith, IfSome}
 use Rattle.ferry_blob.specs.Blob.{OpensTo, content_id, sealed}
 use Rattle.ferry_blob.specs.declared.mode.Mode.{Mode}
 use Rattle.ferry_disk.specs.Moments.{Between}
@@ -117,3 +118,7 @@ returns-clause-writes g c =
     content_writes (repo_view c.args.repo.now) c.args.session.now c.args.counter.now c.keys.result.now c.mode-mode.result c.args.id.now c.args.buffer.now
     c.args.is_blob (g.D.Shelf.told c.args.depot.now) (g.D.Shelf.told c.put_object.new.depot) c.keys.ensures.keys c.mode-mode.ensures.mode
     c.requires.prepared.named c.in_ok-place.ensures.writes
+
+pub put_object-requires-clause-mode : goal.put_object-requires-clause-mode
+put_object-requires-clause-mode g c =
+    subst (λ (k : Mode). IfSome (g.D.Shelf.told c.args.depot.now) (λ t. FitsMode t.history k)) (sym c.mode-mode.ensures.mode) c.requires.mode

@@ -1,4 +1,5 @@
-use Rattle.std.proofs.Common.{rules, ◌≡◌, ◌+◌, ◌++◌, ℕ, List, Ok, Err, Result, drop, length, OnOk, option_map, subst}
+use Rattle.ferry_store.specs.Types.{FitsMode}
+use Rattle.std.proofs.Common.{rules, ◌≡◌, ◌+◌, ◌++◌, ℕ, List, Ok, Err, Result, drop, length, OnOk, option_map, subst, IfSome, sym}
 use Rattle.ferry_base.specs.Limits.{zero_id}
 use Rattle.ferry_blob.specs.Blob.{sealed}
 use Rattle.ferry_blob.specs.declared.mode.Mode.{Mode}
@@ -106,3 +107,7 @@ returns-clause-put g c =
 
 pub returns-in_err-buffer-clause-untold : goal.returns-in_err-buffer-clause-untold
 returns-in_err-buffer-clause-untold g c = told_none (g.D.Shelf.told c.args.depot.now)
+
+pub put_object-requires-clause-mode : goal.put_object-requires-clause-mode
+put_object-requires-clause-mode g c =
+    subst (λ (k : Mode). IfSome (g.D.Shelf.told c.args.depot.now) (λ t. FitsMode t.history k)) (sym c.mode_of-mode.ensures.mode) c.requires.mode

@@ -10,6 +10,7 @@ use Rattle.ferry_store.proofs.CallLemmas.{HasPut, draw_err, draw_ok, entry_ends,
 use Rattle.ferry_store.proofs.CauseLemmas.{draw_stops, fault_of, write_stops}
 use Rattle.ferry_store.proofs.PieceLemmas.{opened_blocks}
 use Rattle.ferry_store.proofs.StepLemmas.{err_is}
+use Rattle.ferry_store.proofs.TypeLemmas.{sealed_typed}
 use Rattle.ferry_store.proofs.put.put_object.Goals as goal
 use Rattle.ferry_store.specs.Causes.{Stops}
 use Rattle.ferry_store.specs.Fault.{nonce_refusal, write_refusal}
@@ -85,7 +86,9 @@ returns-in_err-place-clause-did g c =
     c.from_residual-in_err-place.ensures.1
     (subst (λ (x : List ℕ). Did {T = Place} (KeepsSound session counter) (λ _. TakesEntry session counter (PutEntry id x) now drawn) a d n k
     (Err (write_refusal fault))) same
-    (object_both session now counter drawn (PutEntry id blob) (reserved_for counter blocks) first a b d n m k (Err (write_refusal fault)) taken.0 taken.1
+    (object_both session now counter drawn c.args.mode (PutEntry id blob) (reserved_for counter blocks) first
+    a b d n m k (Err (write_refusal fault)) taken.0 taken.1
+    c.requires.mode (λ h. sealed_typed c.args.keys.now c.args.mode first id _ blob h c.seal_again.ensures.blob)
     (draw_ok counter drawn blocks first a b n m (λ fit. ap g.D.Shelf.told (c.in_ok-first.ensures.kept fit).1) c.in_ok-first.ensures.replaced
     c.in_ok-first.ensures.moments c.in_ok-first.ensures.fits c.in_ok-first.ensures.cause c.in_ok-first.ensures.ends)
     (put_err {T = Place} session (PutEntry id blob) (λ _. HasPut session (PutEntry id blob) now) fault b d m k c.in_err-place.ensures.moments
@@ -119,7 +122,8 @@ returns-clause-did g c =
     (opened_blocks c.args.keys.now c.args.is_blob c.args.buffer.now c.blocks_of-blocks.result c.requires.head c.blocks_of-blocks.ensures.blocks)
     c.in_ok-first.ensures.drawn.1 in
     subst (λ (x : List ℕ). Did {T = Place} (KeepsSound session counter) (λ _. TakesEntry session counter (PutEntry id x) now drawn) a d n k (Ok place)) same
-    (object_both session now counter drawn (PutEntry id blob) (reserved_for counter blocks) first a b d n m k (Ok place) taken.0 taken.1
+    (object_both session now counter drawn c.args.mode (PutEntry id blob) (reserved_for counter blocks) first a b d n m k (Ok place) taken.0 taken.1
+    c.requires.mode (λ h. sealed_typed c.args.keys.now c.args.mode first id _ blob h c.seal_again.ensures.blob)
     (draw_ok counter drawn blocks first a b n m (λ fit. ap g.D.Shelf.told (c.in_ok-first.ensures.kept fit).1) c.in_ok-first.ensures.replaced
     c.in_ok-first.ensures.moments c.in_ok-first.ensures.fits c.in_ok-first.ensures.cause c.in_ok-first.ensures.ends)
     (put_ok {T = Place} session now (PutEntry id blob) place b d m k c.in_ok-place.ensures.moments c.in_ok-place.ensures.put c.in_ok-place.ensures.gains

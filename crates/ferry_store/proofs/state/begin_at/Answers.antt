@@ -1,8 +1,9 @@
-use Rattle.std.proofs.Common.{Ok, Err, Result, ap}
+use Rattle.std.proofs.Common.{◌≡◌, Ok, Err, Result, ap}
 use Rattle.ferry_nonce.specs.Fault.{nonce_failed}
 use Rattle.ferry_nonce.specs.declared.counter.Counter.{Counter}
 use Rattle.ferry_stops.proofs.TellLemmas.{told_both}
-use Rattle.ferry_store.proofs.CallLemmas.{begin_ends, begins_here, begun_err, begun_ok, begun_settled, nonce_is, nonce_there, read_first, read_refused}
+use Rattle.ferry_store.proofs.CallLemmas.{begin_ends, begins_here, begun_err, begun_ok, begun_settled, nonce_is, number_there, numbered_leaves, read_first}
+use Rattle.ferry_store.proofs.CallLemmas.{read_refused, unread_leaves}
 use Rattle.ferry_store.proofs.StepLemmas.{after_same, err_is, same_told}
 use Rattle.ferry_store.proofs.state.begin_at.Goals as goal
 use Rattle.ferry_store.specs.Fault.{nonce_refusal, write_refusal}
@@ -94,7 +95,30 @@ returns-clause-untold g c =
     c.in_ok-session.ensures.untold
 
 pub returns-clause-there : goal.returns-clause-there
-returns-clause-there g c = nonce_there c.args.committed c.in_ok-counter.counter (g.D.Shelf.told c.args.depot.now) c.in_ok-counter.ensures.missing
+returns-clause-there g c =
+    number_there c.args.committed c.in_ok-counter.counter (g.D.Shelf.told c.args.depot.now) c.in_ok-counter.ensures.opened c.in_ok-counter.ensures.missing
+
+pub returns-in_err-counter-clause-leaves : goal.returns-in_err-counter-clause-leaves
+returns-in_err-counter-clause-leaves g c =
+    let a = g.D.Shelf.told c.args.depot.now in
+    let b = g.D.Shelf.told c.open.new.depot in
+    unread_leaves c.args.committed a b (same_told {T = Counter} nonce_failed a b (Err c.in_err-counter.field-0.0) c.in_err-counter.ensures.same)
+
+pub returns-in_err-session-clause-leaves : goal.returns-in_err-session-clause-leaves
+returns-in_err-session-clause-leaves g c =
+    let a = g.D.Shelf.told c.args.depot.now in
+    let b = g.D.Shelf.told c.open.new.depot in
+    numbered_leaves c.args.committed (λ h g. g ≡ h) _ a b (g.D.Shelf.told c.begin.new.depot)
+    (number_there c.args.committed c.in_ok-counter.counter a c.in_ok-counter.ensures.opened c.in_ok-counter.ensures.missing)
+    (same_told nonce_failed a b (Ok c.in_ok-counter.counter) c.in_ok-counter.ensures.same) c.in_err-session.ensures.first
+
+pub returns-clause-leaves : goal.returns-clause-leaves
+returns-clause-leaves g c =
+    let a = g.D.Shelf.told c.args.depot.now in
+    let b = g.D.Shelf.told c.open.new.depot in
+    numbered_leaves c.args.committed (λ h g. g ≡ h) _ a b (g.D.Shelf.told c.begin.new.depot)
+    (number_there c.args.committed c.in_ok-counter.counter a c.in_ok-counter.ensures.opened c.in_ok-counter.ensures.missing)
+    (same_told nonce_failed a b (Ok c.in_ok-counter.counter) c.in_ok-counter.ensures.same) c.in_ok-session.ensures.first
 
 pub returns-in_err-counter-clause-removes : goal.returns-in_err-counter-clause-removes
 returns-in_err-counter-clause-removes g c =

@@ -1,9 +1,13 @@
-use Rattle.std.proofs.Common.{rules, ◌≡◌, Result, refl}
+use Rattle.std.proofs.Common.{rules, ◌≡◌, ℕ, List, Ok, Result, refl, subst}
+use Rattle.ferry_config.specs.Config.{config_of}
 use Rattle.ferry_config.specs.Text.{config_text}
 use Rattle.ferry_store.proofs.CallLemmas.{settings_both, settings_front, settings_here}
 use Rattle.ferry_store.proofs.StepLemmas.{did_nothing, err_is}
 use Rattle.ferry_store.proofs.state.replace_settings.Goals as goal
-use Rattle.ferry_store.specs.State.{Did, SettingsSound, TakesSettings}
+use Rattle.ferry_disk.specs.Act.{ReplaceBy}
+use Rattle.ferry_disk.specs.declared.name.Name.TheVariants.{Config as ConfigFile}
+use Rattle.ferry_store.proofs.TypeLemmas.{mode_told}
+use Rattle.ferry_store.specs.State.{Did, IsStep, SettingsSound, TakesSettings}
 use Rattle.ferry_store.specs.declared.fault.StoreRefusal.{StoreRefusal}
 use Rattle.ferry_store.specs.declared.fault.StoreRefusal.TheVariants.{Memory}
 use Rattle.ferry_stops.proofs.TellLemmas.{told_both, told_none}
@@ -44,3 +48,10 @@ pub returns-clause-untold : goal.returns-clause-untold
 returns-clause-untold g c =
     told_both (g.D.Shelf.told c.args.depot.now) (g.D.Shelf.told c.replace.new.depot) (g.D.Shelf.told c.replace-2.new.depot) c.in_ok-replace.ensures.untold
     c.replace-2.ensures.untold
+
+pub returns-clause-mode : goal.returns-clause-mode
+returns-clause-mode g c =
+    let is : c.deref.result.now ≡ config_text c.args.config.now = search rules in
+    mode_told c.args.config.now c.deref.result.now (IsStep (ReplaceBy ConfigFile c.deref.result.now)) (g.D.Shelf.told c.replace.new.depot)
+    (g.D.Shelf.told c.replace-2.new.depot) (g.D.Shelf.faults c.replace.new.depot) (g.D.Shelf.faults c.replace-2.new.depot) c.replace-2.result is
+    (subst (λ (x : List ℕ). config_of x ≡ Ok c.args.config.now) c.in_ok-text.ensures.text c.in_ok-text.ensures.read_again) c.replace-2.ensures.did

@@ -1,3 +1,4 @@
+use Rattle.ferry_store.proofs.TypeLemmas.{told_mode}
 use Rattle.std.proofs.Common.{◌≡◌, inl, inr, true, OnOk, Result, subst, IfErr, IfSome, sym, ap}
 use Rattle.ferry_disk.specs.Device.{told_files}
 use Rattle.ferry_disk.specs.Moments.{Between}
@@ -84,3 +85,6 @@ returns-in-Err-clause-writes g c =
     let store = c.args.self.now in
     new_writes store c.args.id (content_in (repo_view store.repo).keys c.args.is_blob c.args.buffer.now) (g.D.Shelf.told c.args.depot.now)
     (g.D.Shelf.told c.put_content-put.new.depot) c.requires.prepared.named c.requires.new c.put_content-put.ensures.writes
+
+pub put_content-put-requires-clause-mode : goal.put_content-put-requires-clause-mode
+put_content-put-requires-clause-mode g c = told_mode c.args.self.now (g.D.Shelf.told c.args.depot.now) c.requires.fits

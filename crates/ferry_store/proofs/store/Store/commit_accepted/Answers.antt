@@ -1,3 +1,4 @@
+use Rattle.ferry_store.proofs.TypeLemmas.{writing_mode}
 use Rattle.std.proofs.Common.{◌≡◌, ◌++◌, ℕ, List, Ok, Err, Result, replicate, length, IfErr, OnOk, option_map, refl, sym, ap, subst, arith, [], ◌∷◌}
 use Rattle.ferry_disk.specs.Act.{History}
 use Rattle.ferry_disk.specs.Moments.{Between}
@@ -222,3 +223,6 @@ pub returns-in_err-from_slice-clause-writes : goal.returns-in_err-from_slice-cla
 returns-in_err-from_slice-clause-writes g c =
     let store = c.args.self.now in
     ([], none_writes (Unit {0}) (PutEntry zero_id [] ∷ (CommitEntry ∷ [])) store.session store.counter (g.D.Shelf.told c.args.depot.now))
+
+pub commit_manifest-requires-clause-mode : goal.commit_manifest-requires-clause-mode
+commit_manifest-requires-clause-mode g c = writing_mode c.args.self.now (g.D.Shelf.told c.args.depot.now) c.requires.fits

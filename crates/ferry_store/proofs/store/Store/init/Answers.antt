@@ -6,7 +6,7 @@ use Rattle.ferry_repo.specs.Opening.{OpensFilesTo, repo_view}
 use Rattle.ferry_store.proofs.InitLemmas.{still_cause}
 use Rattle.ferry_store.proofs.StepLemmas.{err_is, same_told}
 use Rattle.ferry_store.proofs.StoreLemmas.{given_still, init_front, init_limit, init_made, init_makes, init_opened, init_uncopied, init_ungiven, init_unopened}
-use Rattle.ferry_store.proofs.StoreLemmas.{init_unread, memory_refused, open_refused}
+use Rattle.ferry_store.proofs.StoreLemmas.{init_unread, making_refused, memory_refused, open_refused}
 use Rattle.ferry_store.proofs.store.Store.init.Goals as goal
 use Rattle.ferry_store.specs.Fault.{repo_refusal, source_failed}
 use Rattle.ferry_store.specs.State.{Did}
@@ -255,3 +255,15 @@ returns-clause-untold g c =
     told_both a d e
     (told_both a b d (told_kept depot_failed a b c.expect_no_commit.result c.expect_no_commit.ensures.same) c.in_ok-counter.ensures.untold)
     (told_kept repo_failed d e c.open.result c.open.ensures.same)
+
+pub returns-in_err-counter-clause-refused : goal.returns-in_err-counter-clause-refused
+returns-in_err-counter-clause-refused g c =
+    let a = g.D.Shelf.told c.args.depot.now in
+    let b = g.D.Shelf.told c.expect_no_commit.new.depot in
+    let refusal = c.in_err-counter.field-0.0 in
+    let secret = c.args.secret.now in
+    err_is c.from_residual-in_err-counter.result refusal
+    (λ (r : Result Store StoreRefusal). IfErr r (λ x. IfSome a (λ t. RefusesInit secret c.args.timestamp.now t.history x)))
+    c.from_residual-in_err-counter.ensures.1
+    (making_refused secret c.args.timestamp.now c.in_ok-given.given a b refusal c.in_ok-given.ensures.given c.in_ok-expect_no_commit.ensures.none
+    c.in_ok-expect_no_commit.ensures.same c.in_err-counter.ensures.refused)

@@ -6,7 +6,7 @@ use Rattle.ferry_repo.specs.Fault.{repo_failed}
 use Rattle.ferry_repo.specs.Opening.{OpensFilesTo, repo_view}
 use Rattle.ferry_repo.specs.declared.repo.Repo.{Repo}
 use Rattle.ferry_stops.proofs.TellLemmas.{told_both, told_kept}
-use Rattle.ferry_store.proofs.OpenLemmas.{open_begun, open_unbegun, open_uncopied, open_unread, opened_leaves, same_leaves}
+use Rattle.ferry_store.proofs.OpenLemmas.{begin_leaves, open_begun, open_unbegun, open_uncopied, open_unread, same_leaves}
 use Rattle.ferry_store.proofs.UnopenedLemmas.{begin_told, there_told}
 use Rattle.ferry_store.proofs.StepLemmas.{after_same, err_is, same_told}
 use Rattle.ferry_store.proofs.store.Store.open.Goals as goal
@@ -144,16 +144,16 @@ returns-in_err-counter-clause-kept g c =
     let a = g.D.Shelf.told c.args.depot.now in
     let b = g.D.Shelf.told c.open.new.shelf in
     let d = g.D.Shelf.told c.begin_at.new.depot in
-    opened_leaves c.args.secret.now (repo_view c.in_ok-repo.repo) a d _ c.in_ok-repo.ensures.repository
-    (after_same _ a b d (same_told repo_failed a b (Ok c.in_ok-repo.repo) c.in_ok-repo.ensures.same) c.in_err-counter.ensures.did.each)
+    begin_leaves c.args.secret.now (repo_view c.in_ok-repo.repo) a b d c.in_ok-repo.ensures.repository
+    (same_told repo_failed a b (Ok c.in_ok-repo.repo) c.in_ok-repo.ensures.same) c.in_err-counter.ensures.leaves
 
 pub returns-clause-kept : goal.returns-clause-kept
 returns-clause-kept g c =
     let a = g.D.Shelf.told c.args.depot.now in
     let b = g.D.Shelf.told c.open.new.shelf in
     let d = g.D.Shelf.told c.begin_at.new.depot in
-    opened_leaves c.args.secret.now (repo_view c.in_ok-repo.repo) a d _ c.in_ok-repo.ensures.repository
-    (after_same _ a b d (same_told repo_failed a b (Ok c.in_ok-repo.repo) c.in_ok-repo.ensures.same) c.in_ok-counter.ensures.did.each)
+    begin_leaves c.args.secret.now (repo_view c.in_ok-repo.repo) a b d c.in_ok-repo.ensures.repository
+    (same_told repo_failed a b (Ok c.in_ok-repo.repo) c.in_ok-repo.ensures.same) c.in_ok-counter.ensures.leaves
 
 pub returns-in_err-repo-clause-removes : goal.returns-in_err-repo-clause-removes
 returns-in_err-repo-clause-removes g c =
